@@ -1,0 +1,4 @@
+mod Places
+mod Pairs
+mod Counts
+mod Texts

@@ -1,0 +1,4 @@
+pub mod Words
+pub mod Hex
+pub mod Lines
+pub mod Lists

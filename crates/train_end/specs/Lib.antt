@@ -1,0 +1,4 @@
+pub mod Line
+pub mod Speed
+pub mod Bus
+pub mod Pulse
