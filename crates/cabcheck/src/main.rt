@@ -5,6 +5,7 @@ mod report;
 mod rows;
 
 use call_list::ListFault;
+use call_list::WrongDisplay;
 use call_list::read_list;
 use input::read_source;
 use options::Asked;
@@ -13,7 +14,6 @@ use report::print_rows;
 use std::error::AnyError;
 use std::io::BufWriter;
 use std::io::Write;
-use call_list::WrongDisplay;
 
 const HELP: &str = "usage: cabcheck [LIST]
 

@@ -1,5 +1,5 @@
-use crate::rows::feed;
 use crate::rows::Row;
+use crate::rows::feed;
 use call_list::Listed;
 use std::io;
 use std::io::Write;

@@ -24,8 +24,9 @@ pub lines-split : (text : List ℕ) → 0 < length text → linesOf text ≡ fir
 lines-split [] l = absurd (omega arith)
 lines-split (b ∷ []) l = elim (cases-bool (isBreak b)) [ inl e ↦ simp e | inr e ↦ simp e ]
 lines-split (b ∷ c ∷ text) l = elim (cases-bool (isBreak b)) [
-    inl e ↦ simp e
-  | inr e ↦ simp e (ap (onFirst b) (lines-split (c ∷ text) (omega arith))) ]
+  | inl e ↦ simp e
+  | inr e ↦ simp e (ap (onFirst b) (lines-split (c ∷ text) (omega arith)))
+]
 
 pub after-line-shorter : (text : List ℕ) → 0 < length text → length (afterLine text) < length text
 after-line-shorter text l = rw (length-drop (suc (placeOf isBreak text)) text) (omega arith)

@@ -18,18 +18,20 @@ pub enum Wrong {
 
 pub impl fmt::Display for Wrong as WrongDisplay {
     fn fmt<W: fmt::Write>(&self, f: &mut fmt::Formatter<W>) -> fmt::Result {
-        f.write_str(match self {
-            Wrong::UnknownCall => "no such call",
-            Wrong::MissingWord => "a word is missing",
-            Wrong::ExtraWord => "there are words after the call's last",
-            Wrong::NotHexadecimal => "bytes are pairs of hexadecimal digits, or - for none",
-        })
+        f.write_str(
+            match self {
+                Wrong::UnknownCall => "no such call",
+                Wrong::MissingWord => "a word is missing",
+                Wrong::ExtraWord => "there are words after the call's last",
+                Wrong::NotHexadecimal => "bytes are pairs of hexadecimal digits, or - for none",
+            },
+        )
     }
 }
 
 /// Why a line was not read.
 #[derive(Clone, Copy, PartialEq, Eq, Debug)]
-pub enum LineFault {
+pub(crate) enum LineFault {
     Bad(Wrong),
     NoMemory,
 }

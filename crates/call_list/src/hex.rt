@@ -48,7 +48,7 @@ fn pair_bytes(heap: Global, digits: &[u8]) -> Result<Option<Vec<u8>>, AllocError
 }
 
 /// The bytes that a word names: `-` for none, else pairs of hexadecimal digits; none where it is neither.
-pub fn decode(heap: Global, word: &[u8]) -> Result<Option<Vec<u8>>, AllocError>
+pub(crate) fn decode(heap: Global, word: &[u8]) -> Result<Option<Vec<u8>>, AllocError>
     ensures { λ r. ⌜ made r (λ v. mapped vec-items v ≡ hexBytes (now (word .entry))) ⌝ }
 {
     if same(word, b"-") {

@@ -12,3 +12,6 @@ pub use entry::WrongDisplay;
 pub use list::read_list;
 pub use listed::ListFault;
 pub use listed::Listed;
+
+#[cfg(test)]
+mod tests;

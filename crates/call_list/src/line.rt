@@ -13,7 +13,7 @@ use std::alloc::Global;
 
 /// What the first word of a line stands for.
 #[derive(Clone, Copy)]
-pub enum Verb {
+pub(crate) enum Verb {
     /// A blank line or a comment.
     Nothing,
     Cycle,
@@ -43,7 +43,11 @@ fn count_fault(text: &[u8], wanted: u8) -> Option<Wrong>
         }
         rest = after_word(rest);
     }
-    if first_word(rest).is_empty() { None } else { Some(Wrong::ExtraWord) }
+    if first_word(rest).is_empty() {
+        None
+    } else {
+        Some(Wrong::ExtraWord)
+    }
 }
 
 fn bytes_of(heap: Global, word: &[u8]) -> Result<Vec<u8>, LineFault>
@@ -68,7 +72,7 @@ fn read_cycle(heap: Global, rest: &[u8]) -> Result<Entry, LineFault>
 }
 
 /// What a line asks for; none where it is blank or a comment.
-pub fn read_line(heap: Global, line: &[u8]) -> Result<Option<Entry>, LineFault>
+pub(crate) fn read_line(heap: Global, line: &[u8]) -> Result<Option<Entry>, LineFault>
     ensures { λ r. ⌜ ReadsLine (lineOf (now (line .entry))) r ⌝ }
 {
     let rest = after_word(line);

@@ -22,7 +22,11 @@ fn after_line(text: &[u8]) -> &[u8]
     ensures { λ r. ⌜ now r ≡ afterLine (now (text .entry)) ⌝ }
 {
     let end = find::<LineBreak>(text);
-    if end < text.len() { &text[end + 1..] } else { &text[end..] }
+    if end < text.len() {
+        &text[end + 1..]
+    } else {
+        &text[end..]
+    }
 }
 
 fn keep(listed: &mut Vec<Listed>, one: Listed) -> Result<(), ListFault>
@@ -35,13 +39,27 @@ fn keep(listed: &mut Vec<Listed>, one: Listed) -> Result<(), ListFault>
 }
 
 /// Reads one line and keeps its call, if it has one.
-fn note_line(heap: Global, listed: &mut Vec<Listed>, number: usize, line: &[u8]) -> Result<(), ListFault>
+fn note_line(
+    heap: Global,
+    listed: &mut Vec<Listed>,
+    number: usize,
+    line: &[u8],
+) -> Result<(), ListFault>
     ensures { λ r. ⌜ Noted number (lineOf (now (line .entry))) (vec-items (now (listed .entry))) (vec-items (now (listed .exit))) r ⌝ }
 {
     match read_line(heap, line) {
         Ok(None) => Ok(()),
-        Ok(Some(entry)) => keep(listed, Listed { line: number, entry }),
-        Err(LineFault::Bad(wrong)) => Err(ListFault::Line { line: number, wrong }),
+        Ok(Some(entry)) => keep(
+            listed,
+            Listed {
+                line: number,
+                entry,
+            },
+        ),
+        Err(LineFault::Bad(wrong)) => Err(ListFault::Line {
+            line: number,
+            wrong,
+        }),
         Err(LineFault::NoMemory) => Err(ListFault::NoMemory),
     }
 }

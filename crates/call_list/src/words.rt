@@ -6,7 +6,7 @@ ghost use Rattle.std.specs.shelf.Text.{sameBytes};
 ghost use Rattle.call_list.specs.Words.{isBlank, isPrinting, isBreak, placeOf, fromWord, wordOf, afterWord};
 
 /// A test of one byte of the text.
-pub trait ByteTest {
+pub(crate) trait ByteTest {
     ghost test: { ℕ → Bool };
 
     fn holds(b: u8) -> bool
@@ -14,15 +14,15 @@ pub trait ByteTest {
 }
 
 /// A space, a tab or a carriage return.
-pub struct Blank;
+pub(crate) struct Blank;
 
 /// Any byte that is not blank.
-pub struct Printing;
+pub(crate) struct Printing;
 
 /// The byte that ends a line.
-pub struct LineBreak;
+pub(crate) struct LineBreak;
 
-pub impl ByteTest for Blank as BlankTest {
+pub(crate) impl ByteTest for Blank as BlankTest {
     ghost test = { isBlank };
 
     fn holds(b: u8) -> bool {
@@ -30,7 +30,7 @@ pub impl ByteTest for Blank as BlankTest {
     }
 }
 
-pub impl ByteTest for Printing as PrintingTest {
+pub(crate) impl ByteTest for Printing as PrintingTest {
     ghost test = { isPrinting };
 
     fn holds(b: u8) -> bool {
@@ -38,7 +38,7 @@ pub impl ByteTest for Printing as PrintingTest {
     }
 }
 
-pub impl ByteTest for LineBreak as LineBreakTest {
+pub(crate) impl ByteTest for LineBreak as LineBreakTest {
     ghost test = { isBreak };
 
     fn holds(b: u8) -> bool {
@@ -47,7 +47,7 @@ pub impl ByteTest for LineBreak as LineBreakTest {
 }
 
 /// The place of the first byte that passes the test, or the length where none does.
-pub fn find<B: ByteTest>(text: &[u8]) -> usize
+pub(crate) fn find<B: ByteTest>(text: &[u8]) -> usize
     ensures value { λ r. ⌜ r ≡ placeOf test (now (text .entry)) ⌝ }
     ensures within { λ r. ⌜ r ≤ length (now (text .entry)) ⌝ }
 {
@@ -68,7 +68,7 @@ fn from_word(text: &[u8]) -> &[u8]
 }
 
 /// The first word of a text, empty where there is none.
-pub fn first_word(text: &[u8]) -> &[u8]
+pub(crate) fn first_word(text: &[u8]) -> &[u8]
     ensures { λ r. ⌜ now r ≡ wordOf (now (text .entry)) ⌝ }
 {
     let from = from_word(text);
@@ -77,7 +77,7 @@ pub fn first_word(text: &[u8]) -> &[u8]
 }
 
 /// What stands after the first word.
-pub fn after_word(text: &[u8]) -> &[u8]
+pub(crate) fn after_word(text: &[u8]) -> &[u8]
     ensures { λ r. ⌜ now r ≡ afterWord (now (text .entry)) ⌝ }
 {
     let from = from_word(text);
@@ -85,7 +85,7 @@ pub fn after_word(text: &[u8]) -> &[u8]
     &from[end..]
 }
 
-pub fn same(word: &[u8], other: &[u8]) -> bool
+pub(crate) fn same(word: &[u8], other: &[u8]) -> bool
     ensures { λ r. ⌜ r ≡ sameBytes (now (word .entry)) (now (other .entry)) ⌝ }
 {
     word == other

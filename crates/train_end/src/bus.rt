@@ -22,7 +22,11 @@ fn fields(high: u8, low: u8) -> Option<u16>
     let valid = high / 128;
     let filler = high / 4 % 32;
     let speed = (high % 4) as u16 * 256 + low as u16;
-    if valid == 1 && filler == 0 && speed <= 600 { Some(speed) } else { None }
+    if valid == 1 && filler == 0 && speed <= 600 {
+        Some(speed)
+    } else {
+        None
+    }
 }
 
 impl BusEnd {

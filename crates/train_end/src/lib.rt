@@ -10,3 +10,6 @@ pub use bus::BusTrainEnd;
 pub use end::TrainEnd;
 pub use pulse::PulseEnd;
 pub use pulse::PulseTrainEnd;
+
+#[cfg(test)]
+mod tests;

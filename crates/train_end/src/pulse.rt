@@ -33,14 +33,22 @@ fn larger(pair: (u16, u16)) -> Option<u16>
 {
     let (one, other) = pair;
     let most = one.max(other);
-    if most - one.min(other) <= 3 { Some(most) } else { None }
+    if most - one.min(other) <= 3 {
+        Some(most)
+    } else {
+        None
+    }
 }
 
 /// 27 × p / 25 rounded up, known for p up to 555.
 fn speed_of(p: u16) -> Option<u16>
     ensures { λ r. ⌜ r ≡ countSpeed p ⌝ }
 {
-    if p <= 555 { Some((27 * p + 24) / 25) } else { None }
+    if p <= 555 {
+        Some((27 * p + 24) / 25)
+    } else {
+        None
+    }
 }
 
 impl PulseEnd {

@@ -21,10 +21,11 @@ loop-rest-less c =
 
 pub loop-rest-again : need.loop-rest-again
 loop-rest-again c =
-    let l : 0 < length (c .loop-rest .rest .now) = search needs in
-    ( list-more (vec-items (c .loop-rest .listed)) (c .loop-rest .number) (c .loop-rest .rest .now) (c .args .text .now) (c .loop-rest .inv .0)
-      (vec-items (c .note-line .last .listed)) (c .first-line .result .now) (c .after-line-rest .result .now) tt l (c .first-line .ensures) (c .after-line-rest .ensures) (c .in-rest .ensures tt)
-    , omega (arith, after-line-shorter (c .loop-rest .rest .now) l, ap length (c .after-line-rest .ensures), c .loop-rest .inv .1) )
+    let l : 0 < length (c .loop-rest .rest .now) = search needs in (
+      list-more (vec-items (c .loop-rest .listed)) (c .loop-rest .number) (c .loop-rest .rest .now) (c .args .text .now) (c .loop-rest .inv .0)
+          (vec-items (c .note-line .last .listed)) (c .first-line .result .now) (c .after-line-rest .result .now) tt l (c .first-line .ensures) (c .after-line-rest .ensures) (c .in-rest .ensures tt),
+      omega (arith, after-line-shorter (c .loop-rest .rest .now) l, ap length (c .after-line-rest .ensures), c .loop-rest .inv .1),
+    )
 
 pub returns : need.returns
 returns c =
