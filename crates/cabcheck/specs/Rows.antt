@@ -1,26 +1,17 @@
 -- What a row of the table says.
 use mathlib.Core.Bool.{Bool, true, false, not}
+use mathlib.Core.List.{List}
 use Prim.Native.Nat.{ℕ}
 use lib.Dec.{eqb}
-use Rattle.std.specs.Of.Vec.{vec-items}
 use Rattle.std.specs.declared.option.Option.{Option}
 use Rattle.std.specs.declared.option.Option.the-variants.{Some, None}
-use Rattle.call_list.specs.declared.entry.Entry.{Entry}
-use Rattle.call_list.specs.declared.entry.Entry.the-variants.{Cycle}
-use Rattle.call_list.specs.declared.listed.Listed.{Listed}
 use Rattle.train_end.specs.Bus.{busReading}
 use Rattle.train_end.specs.Pulse.{pulseReading}
 use Rattle.cabcheck.specs.declared.rows.Row.{Row}
 
 -- the speed that each end reads in its block
-abbrev pub busSpeed : Entry → Option ℕ
-busSpeed (Cycle bus pulse) = busReading (vec-items bus)
-
-abbrev pub pulseSpeed : Entry → Option ℕ
-pulseSpeed (Cycle bus pulse) = pulseReading (vec-items pulse)
-
-abbrev pub rowOf : Listed → Row
-rowOf l = record { line = l .line; bus = busSpeed (l .entry); pulse = pulseSpeed (l .entry) }
+abbrev pub rowOf : ℕ → List ℕ → List ℕ → Row
+rowOf line busBlock pulseBlock = record { line = line; bus = busReading busBlock; pulse = pulseReading pulseBlock }
 
 -- two speeds differ, where one is unknown and the other is not, too
 abbrev pub differ : Option ℕ → Option ℕ → Bool

@@ -2,7 +2,7 @@ use std::fs;
 use std::io;
 use std::io::Read;
 
-/// The whole of a file, or of standard input for `-`.
+// The whole of a file, or of standard input for `-`.
 pub fn read_source(rt: &LibcRuntime, name: &str) -> io::Result<Vec<u8>> {
     if name == "-" {
         let mut text = Vec::new(rt.alloc());

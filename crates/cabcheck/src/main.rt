@@ -1,5 +1,6 @@
-//! The program: reads a call list, runs it through a bus cab and a pulse cab, and lays them side by side.
+// The program: reads a call list, runs it through a bus cab and a pulse cab, and lays them side by side.
 mod input;
+mod messages;
 mod options;
 mod report;
 mod rows;
@@ -10,7 +11,7 @@ use call_list::read_list;
 use input::read_source;
 use options::Asked;
 use options::read_options;
-use report::print_rows;
+use report::print_list;
 use std::error::AnyError;
 use std::io::BufWriter;
 use std::io::Write;
@@ -18,8 +19,9 @@ use std::io::Write;
 const HELP: &str = "usage: cabcheck [LIST]
 
 Feeds each block of a call list to a bus end and a pulse end and prints
-both speeds side by side. LIST is a file; without it, or for -, the list
-comes from standard input.
+both speeds side by side; reads each telegram and prints its orders, and
+the top of the message window. LIST is a file; without it, or for -, the
+list comes from standard input.
 
   --help     print this
   --version  print the version
@@ -58,7 +60,7 @@ fn run(rt: &LibcRuntime, name: &str) -> Result<(), AnyError> {
         }
     };
     let mut out = BufWriter::new(rt.stdout());
-    print_rows(&mut out, &listed)?;
+    print_list(&mut out, rt.alloc(), &listed)?;
     out.flush()?;
     Ok(())
 }

@@ -1,12 +1,12 @@
 use std::env;
 use std::error::AnyError;
 
-/// What the command line asks for.
+// What the command line asks for.
 #[derive(Drop)]
 pub enum Asked {
     Help,
     Version,
-    /// A run of the list of this name.
+    // A run of the list of this name.
     Run(String),
 }
 

@@ -1,14 +1,12 @@
 ghost use mathlib.Core.Path.{_≡_};
 ghost use Rattle.cabcheck.specs.Rows.{rowOf, differ};
-use call_list::Entry;
-use call_list::Listed;
 use train_end::BusEnd;
 use train_end::BusTrainEnd;
 use train_end::PulseEnd;
 use train_end::PulseTrainEnd;
 use train_end::TrainEnd;
 
-/// The speeds of the two ends after a cycle, and the line that asked for it.
+// The speeds of the two ends after a cycle, and the line that asked for it.
 #[derive(Clone, Copy)]
 pub struct Row {
     pub line: usize,
@@ -16,21 +14,14 @@ pub struct Row {
     pub pulse: Option<u16>,
 }
 
-/// Gives each end its block.
-pub fn feed(bus: &mut BusEnd, pulse: &mut PulseEnd, listed: &Listed) -> Row
-    ensures { λ r. ⌜ r ≡ rowOf (now (listed .entry)) ⌝ }
+// Gives each end its block, asked for by the line of that number.
+pub fn feed(bus: &mut BusEnd, pulse: &mut PulseEnd, line: usize, bus_block: &[u8], pulse_block: &[u8]) -> Row
+    ensures { λ r. ⌜ r ≡ rowOf line (now («bus_block» .entry)) (now («pulse_block» .entry)) ⌝ }
 {
-    match &listed.entry {
-        Entry::Cycle {
-            bus: bus_block,
-            pulse: pulse_block,
-        } => {
-            bus.give_block(bus_block);
-            pulse.give_block(pulse_block);
-        }
-    }
+    bus.give_block(bus_block);
+    pulse.give_block(pulse_block);
     Row {
-        line: listed.line,
+        line,
         bus: bus.speed(),
         pulse: pulse.speed(),
     }

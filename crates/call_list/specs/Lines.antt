@@ -15,7 +15,7 @@ use Rattle.std.specs.declared.result.Result.the-variants.{Ok, Err}
 use Rattle.call_list.specs.Hex.{hexBytes}
 use Rattle.call_list.specs.Words.{wordOf, afterWord}
 use Rattle.call_list.specs.declared.entry.Entry.{Entry}
-use Rattle.call_list.specs.declared.entry.Entry.the-variants.{Cycle}
+use Rattle.call_list.specs.declared.entry.Entry.the-variants.{Cycle, Telegram}
 use Rattle.call_list.specs.declared.entry.Wrong.{Wrong}
 use Rattle.call_list.specs.declared.entry.Wrong.the-variants.{UnknownCall, MissingWord, ExtraWord, NotHexadecimal}
 use Rattle.call_list.specs.declared.entry.LineFault.{LineFault}
@@ -27,12 +27,17 @@ use Rattle.call_list.specs.declared.line.Verb.the-variants as verbs
 pub data LineValue : Type 0 where
   passed : LineValue
   cycle : List ℕ → List ℕ → LineValue
+  telegram : List ℕ → LineValue
   wrong : Wrong → LineValue
 
 -- an empty word begins a blank line, and # (35) a comment
 abbrev pub verbOf : List ℕ → Verb
 verbOf [] = verbs.Nothing
-verbOf (b ∷ word) = cond (eqb b 35) verbs.Nothing (cond (sameBytes (b ∷ word) (codes "cycle")) verbs.Cycle verbs.Unknown)
+verbOf (b ∷ word) =
+    cond (eqb b 35) verbs.Nothing
+    (cond (sameBytes (b ∷ word) (codes "cycle")) verbs.Cycle
+    (cond (sameBytes (b ∷ word) (codes "telegram")) verbs.Telegram
+    verbs.Unknown))
 
 abbrev pub isEmpty : List ℕ → Bool
 isEmpty word = eqb (length word) 0
@@ -55,9 +60,18 @@ cycleOf (Some bus) (Some pulse) = cycle bus pulse
 abbrev pub cycleLine : List ℕ → LineValue
 cycleLine rest = unless (countFault 2 rest) (cycleOf (hexBytes (wordOf rest)) (hexBytes (wordOf (afterWord rest))))
 
+abbrev pub telegramOf : Option (List ℕ) → LineValue
+telegramOf None = wrong NotHexadecimal
+telegramOf (Some bytes) = telegram bytes
+
+-- a telegram has one word, its bytes
+abbrev pub telegramLine : List ℕ → LineValue
+telegramLine rest = unless (countFault 1 rest) (telegramOf (hexBytes (wordOf rest)))
+
 abbrev pub byVerb : Verb → List ℕ → LineValue
 byVerb verbs.Nothing rest = passed
 byVerb verbs.Cycle rest = cycleLine rest
+byVerb verbs.Telegram rest = telegramLine rest
 byVerb verbs.Unknown rest = wrong UnknownCall
 
 abbrev pub lineOf : List ℕ → LineValue
@@ -65,6 +79,7 @@ lineOf line = byVerb (verbOf (wordOf line)) (afterWord line)
 
 abbrev pub valueOf : Entry → LineValue
 valueOf (Cycle bus pulse) = cycle (vec-items bus) (vec-items pulse)
+valueOf (Telegram bytes) = telegram (vec-items bytes)
 
 -- a value is read, or it is wrong and the fault says how; want of memory says nothing of it
 abbrev pub Reads : LineValue → Result Entry LineFault → Type 0

@@ -1,13 +1,15 @@
 use std::fmt;
 
-/// What a line asks for.
+// What a line asks for.
 #[derive(Drop)]
 pub enum Entry {
-    /// A cycle, with the block for the bus cab and that for the pulse cab.
+    // A cycle, with the block for the bus cab and that for the pulse cab.
     Cycle { bus: Vec<u8>, pulse: Vec<u8> },
+    // A telegram, to be read from its start.
+    Telegram(Vec<u8>),
 }
 
-/// What is wrong with a line.
+// What is wrong with a line.
 #[derive(Clone, Copy, PartialEq, Eq, Debug)]
 pub enum Wrong {
     UnknownCall,
@@ -29,7 +31,7 @@ pub impl fmt::Display for Wrong as WrongDisplay {
     }
 }
 
-/// Why a line was not read.
+// Why a line was not read.
 #[derive(Clone, Copy, PartialEq, Eq, Debug)]
 pub(crate) enum LineFault {
     Bad(Wrong),

@@ -22,7 +22,7 @@ fn digit(b: u8) -> Option<u8>
     None
 }
 
-/// The byte that two digits name, the higher digit first.
+// The byte that two digits name, the higher digit first.
 fn byte(a: u8, b: u8) -> Option<u8>
     ensures { λ r. ⌜ r ≡ byteOf a b ⌝ }
 {
@@ -47,7 +47,7 @@ fn pair_bytes(heap: Global, digits: &[u8]) -> Result<Option<Vec<u8>>, AllocError
     Ok(Some(bytes))
 }
 
-/// The bytes that a word names: `-` for none, else pairs of hexadecimal digits; none where it is neither.
+// The bytes that a word names: `-` for none, else pairs of hexadecimal digits; none where it is neither.
 pub(crate) fn decode(heap: Global, word: &[u8]) -> Result<Option<Vec<u8>>, AllocError>
     ensures { λ r. ⌜ made r (λ v. mapped vec-items v ≡ hexBytes (now (word .entry))) ⌝ }
 {

@@ -1,4 +1,4 @@
-//! A call list is a text with one call to a line; here it is read, or refused at its first bad line.
+// A call list is a text with one call to a line; here it is read, or refused at its first bad line.
 mod entry;
 mod hex;
 mod line;

@@ -1,7 +1,7 @@
 ghost use mathlib.Core.Path.{_≡_};
 ghost use Rattle.std.specs.Of.Vec.{vec-items};
 ghost use Rattle.call_list.specs.Hex.{hexBytes};
-ghost use Rattle.call_list.specs.Lines.{verbOf, countFault, cycleLine, lineOf, Reads, ReadsLine, ReadsBytes};
+ghost use Rattle.call_list.specs.Lines.{verbOf, countFault, cycleLine, telegramLine, lineOf, Reads, ReadsLine, ReadsBytes};
 use crate::entry::Entry;
 use crate::entry::LineFault;
 use crate::entry::Wrong;
@@ -11,12 +11,13 @@ use crate::words::first_word;
 use crate::words::same;
 use std::alloc::Global;
 
-/// What the first word of a line stands for.
+// What the first word of a line stands for.
 #[derive(Clone, Copy)]
 pub(crate) enum Verb {
-    /// A blank line or a comment.
+    // A blank line or a comment.
     Nothing,
     Cycle,
+    Telegram,
     Unknown,
 }
 
@@ -29,10 +30,13 @@ fn verb_of(word: &[u8]) -> Verb
     if same(word, b"cycle") {
         return Verb::Cycle;
     }
+    if same(word, b"telegram") {
+        return Verb::Telegram;
+    }
     Verb::Unknown
 }
 
-/// What is wrong with the number of words in a text, where `wanted` are due.
+// What is wrong with the number of words in a text, where `wanted` are due.
 fn count_fault(text: &[u8], wanted: u8) -> Option<Wrong>
     ensures { λ r. ⌜ r ≡ countFault wanted (now (text .entry)) ⌝ }
 {
@@ -71,7 +75,17 @@ fn read_cycle(heap: Global, rest: &[u8]) -> Result<Entry, LineFault>
     Ok(Entry::Cycle { bus, pulse })
 }
 
-/// What a line asks for; none where it is blank or a comment.
+fn read_telegram(heap: Global, rest: &[u8]) -> Result<Entry, LineFault>
+    ensures { λ r. ⌜ Reads (telegramLine (now (rest .entry))) r ⌝ }
+{
+    if let Some(wrong) = count_fault(rest, 1) {
+        return Err(LineFault::Bad(wrong));
+    }
+    let bytes = bytes_of(heap, first_word(rest))?;
+    Ok(Entry::Telegram(bytes))
+}
+
+// What a line asks for; none where it is blank or a comment.
 pub(crate) fn read_line(heap: Global, line: &[u8]) -> Result<Option<Entry>, LineFault>
     ensures { λ r. ⌜ ReadsLine (lineOf (now (line .entry))) r ⌝ }
 {
@@ -80,6 +94,10 @@ pub(crate) fn read_line(heap: Global, line: &[u8]) -> Result<Option<Entry>, Line
         Verb::Nothing => Ok(None),
         Verb::Cycle => {
             let entry = read_cycle(heap, rest)?;
+            Ok(Some(entry))
+        }
+        Verb::Telegram => {
+            let entry = read_telegram(heap, rest)?;
             Ok(Some(entry))
         }
         Verb::Unknown => Err(LineFault::Bad(Wrong::UnknownCall)),

@@ -38,7 +38,7 @@ fn keep(listed: &mut Vec<Listed>, one: Listed) -> Result<(), ListFault>
     }
 }
 
-/// Reads one line and keeps its call, if it has one.
+// Reads one line and keeps its call, if it has one.
 fn note_line(
     heap: Global,
     listed: &mut Vec<Listed>,
@@ -64,7 +64,7 @@ fn note_line(
     }
 }
 
-/// The calls of a list with the numbers of their lines, from 1, or its first bad line.
+// The calls of a list with the numbers of their lines, from 1, or its first bad line.
 pub fn read_list(heap: Global, text: &[u8]) -> Result<Vec<Listed>, ListFault>
     ensures { λ r. ⌜ ReadsList (now (text .entry)) r ⌝ }
 {

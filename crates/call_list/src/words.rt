@@ -5,7 +5,7 @@ ghost use lib.ListN.{length};
 ghost use Rattle.std.specs.shelf.Text.{sameBytes};
 ghost use Rattle.call_list.specs.Words.{isBlank, isPrinting, isBreak, placeOf, fromWord, wordOf, afterWord};
 
-/// A test of one byte of the text.
+// A test of one byte of the text.
 pub(crate) trait ByteTest {
     ghost test: { ℕ → Bool };
 
@@ -13,13 +13,13 @@ pub(crate) trait ByteTest {
         ensures { λ r. ⌜ r ≡ test b ⌝ };
 }
 
-/// A space, a tab or a carriage return.
+// A space, a tab or a carriage return.
 pub(crate) struct Blank;
 
-/// Any byte that is not blank.
+// Any byte that is not blank.
 pub(crate) struct Printing;
 
-/// The byte that ends a line.
+// The byte that ends a line.
 pub(crate) struct LineBreak;
 
 pub(crate) impl ByteTest for Blank as BlankTest {
@@ -46,7 +46,7 @@ pub(crate) impl ByteTest for LineBreak as LineBreakTest {
     }
 }
 
-/// The place of the first byte that passes the test, or the length where none does.
+// The place of the first byte that passes the test, or the length where none does.
 pub(crate) fn find<B: ByteTest>(text: &[u8]) -> usize
     ensures value { λ r. ⌜ r ≡ placeOf test (now (text .entry)) ⌝ }
     ensures within { λ r. ⌜ r ≤ length (now (text .entry)) ⌝ }
@@ -59,7 +59,7 @@ pub(crate) fn find<B: ByteTest>(text: &[u8]) -> usize
     text.len()
 }
 
-/// A text from its first word on.
+// A text from its first word on.
 fn from_word(text: &[u8]) -> &[u8]
     ensures { λ r. ⌜ now r ≡ fromWord (now (text .entry)) ⌝ }
 {
@@ -67,7 +67,7 @@ fn from_word(text: &[u8]) -> &[u8]
     &text[start..]
 }
 
-/// The first word of a text, empty where there is none.
+// The first word of a text, empty where there is none.
 pub(crate) fn first_word(text: &[u8]) -> &[u8]
     ensures { λ r. ⌜ now r ≡ wordOf (now (text .entry)) ⌝ }
 {
@@ -76,7 +76,7 @@ pub(crate) fn first_word(text: &[u8]) -> &[u8]
     &from[0..end]
 }
 
-/// What stands after the first word.
+// What stands after the first word.
 pub(crate) fn after_word(text: &[u8]) -> &[u8]
     ensures { λ r. ⌜ now r ≡ afterWord (now (text .entry)) ⌝ }
 {

@@ -1,7 +1,7 @@
 ghost use mathlib.Core.Path.{_≡_};
 ghost use Rattle.train_end.specs.Line.{lineNumber};
 
-/// What the brake line demands.
+// What the brake line demands.
 #[derive(Clone, Copy, PartialEq, Eq, Debug)]
 pub enum BrakeLine {
     Released,
@@ -10,7 +10,7 @@ pub enum BrakeLine {
 }
 
 impl BrakeLine {
-    /// 0 released, 1 service, 2 emergency.
+    // 0 released, 1 service, 2 emergency.
     pub fn number(self) -> u8
         ensures { λ r. ⌜ r ≡ lineNumber self ⌝ }
     {

@@ -7,7 +7,7 @@ ghost use Rattle.train_end.specs.Speed.{inRange};
 use crate::brake_line::BrakeLine;
 use crate::end::TrainEnd;
 
-/// The end fed by the vehicle bus.
+// The end fed by the vehicle bus.
 #[derive(Drop)]
 pub struct BusEnd {
     speed: Option<u16>,
@@ -15,7 +15,7 @@ pub struct BusEnd {
     ghost range: { inRange speed ≡ true },
 }
 
-/// The speed in the three fields of a block of two bytes.
+// The speed in the three fields of a block of two bytes.
 fn fields(high: u8, low: u8) -> Option<u16>
     ensures { λ r. ⌜ r ≡ busFields (validBit high) (fillerBits high) (speedBits high low) ⌝ }
 {
@@ -30,7 +30,7 @@ fn fields(high: u8, low: u8) -> Option<u16>
 }
 
 impl BusEnd {
-    /// Speed unknown, line at emergency.
+    // Speed unknown, line at emergency.
     pub fn new() -> BusEnd
         ensures speed { λ r. ⌜ r .speed ≡ None ⌝ }
         ensures line { λ r. ⌜ r .line ≡ Emergency ⌝ }
@@ -41,7 +41,7 @@ impl BusEnd {
         }
     }
 
-    /// The speed that a block means: valid 1 bit, five zero bits, speed 10 bits.
+    // The speed that a block means: valid 1 bit, five zero bits, speed 10 bits.
     pub fn read(block: &[u8]) -> Option<u16>
         ensures value { λ r. ⌜ r ≡ busReading (now (block .entry)) ⌝ }
         ensures edges { λ _. ⌜ BusEdges ⌝ }

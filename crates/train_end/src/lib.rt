@@ -1,4 +1,4 @@
-//! A train end gives the speed and holds the brake line; here are the trait and two makes of it.
+// A train end gives the speed and holds the brake line; here are the trait and two makes of it.
 mod brake_line;
 mod bus;
 mod end;

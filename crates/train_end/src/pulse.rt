@@ -8,7 +8,7 @@ ghost use Rattle.train_end.specs.Speed.{inRange};
 use crate::brake_line::BrakeLine;
 use crate::end::TrainEnd;
 
-/// The end fed by wheel pulses, whose brake line is held by two relays.
+// The end fed by wheel pulses, whose brake line is held by two relays.
 #[derive(Drop)]
 pub struct PulseEnd {
     speed: Option<u16>,
@@ -17,7 +17,7 @@ pub struct PulseEnd {
     ghost range: { inRange speed ≡ true },
 }
 
-/// The counts of the two axles in a block of four bytes, high byte first.
+// The counts of the two axles in a block of four bytes, high byte first.
 fn counts(block: &[u8]) -> Option<(u16, u16)>
     ensures { λ r. ⌜ r ≡ pulseCounts (now (block .entry)) ⌝ }
 {
@@ -27,7 +27,7 @@ fn counts(block: &[u8]) -> Option<(u16, u16)>
     Some((*a as u16 * 256 + *b as u16, *c as u16 * 256 + *d as u16))
 }
 
-/// The larger of two counts that differ by at most 3.
+// The larger of two counts that differ by at most 3.
 fn larger(pair: (u16, u16)) -> Option<u16>
     ensures { λ r. ⌜ r ≡ largerCount pair ⌝ }
 {
@@ -40,7 +40,7 @@ fn larger(pair: (u16, u16)) -> Option<u16>
     }
 }
 
-/// 27 × p / 25 rounded up, known for p up to 555.
+// 27 × p / 25 rounded up, known for p up to 555.
 fn speed_of(p: u16) -> Option<u16>
     ensures { λ r. ⌜ r ≡ countSpeed p ⌝ }
 {
@@ -52,7 +52,7 @@ fn speed_of(p: u16) -> Option<u16>
 }
 
 impl PulseEnd {
-    /// Speed unknown, line at emergency: both relays off.
+    // Speed unknown, line at emergency: both relays off.
     pub fn new() -> PulseEnd
         ensures speed { λ r. ⌜ r .speed ≡ None ⌝ }
         ensures line { λ r. ⌜ relayLine (r .«first_relay») (r .«second_relay») ≡ Emergency ⌝ }
@@ -64,7 +64,7 @@ impl PulseEnd {
         }
     }
 
-    /// The speed that a block means: the two axles' counts, compared and reduced to the larger.
+    // The speed that a block means: the two axles' counts, compared and reduced to the larger.
     pub fn read(block: &[u8]) -> Option<u16>
         ensures value { λ r. ⌜ r ≡ pulseReading (now (block .entry)) ⌝ }
         ensures edges { λ _. ⌜ PulseEdges ⌝ }

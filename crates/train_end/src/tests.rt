@@ -6,7 +6,7 @@ use crate::PulseTrainEnd;
 use crate::TrainEnd;
 use std::test::*;
 
-/// The speed of an end after one block.
+// The speed of an end after one block.
 fn after<E: TrainEnd + Drop>(mut end: E, block: &[u8]) -> Option<u16> {
     end.give_block(block);
     end.speed()
@@ -42,7 +42,7 @@ fn pulse_counts() -> Result<(), Fail> {
     check_eq(after(PulseEnd::new(), &[0x02, 0x2C, 0x02, 0x2C]), None).note("556 pulses")
 }
 
-/// The line of an end, as a number, when it is new and after it was set.
+// The line of an end, as a number, when it is new and after it was set.
 fn lines<E: TrainEnd + Drop>(mut end: E, line: BrakeLine) -> (u8, u8, Option<u16>) {
     let new = end.line().number();
     end.set_line(line);

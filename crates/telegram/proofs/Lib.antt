@@ -1,0 +1,4 @@
+pub mod Texts
+pub mod Backs
+pub mod Standing
+pub mod Readings
