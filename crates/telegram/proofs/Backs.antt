@@ -66,6 +66,7 @@ mode-back Trip h = absurd (omega arith)
 mode-back PostTrip h = absurd (omega arith)
 mode-back SystemFailure h = absurd (omega arith)
 
+-- Bits below 3 are those of the mode that they name.
 pub bits-back : (v : ℕ) → v < 3 → modeBits (listedMode v) ≡ v
 bits-back zero h = refl
 bits-back (suc zero) h = refl
@@ -76,7 +77,7 @@ bits-back (suc (suc (suc n))) h = absurd (omega arith)
 pub not-said : {X : Type 0} (f : Fault) (x : X) → _≡_ {A = Result X Fault} (Err f) (Ok x) → ⊥
 not-said f x h = let c : _≡_ {A = ℕ} 0 1 = cc in omega arith
 
--- Two bits below 3 and six zero bits are read back, and from no other byte.
+-- Two bits below 3 and six zero bits are read back.
 pub two-bits-back : (v : ℕ) → v < 3 → twoBits (64 * v) ≡ Ok v
 two-bits-back v h =
     let q : (64 * v) / 64 ≡ v = omega arith in
@@ -84,6 +85,7 @@ two-bits-back v h =
     let l : ltb v 3 ≡ true = lt-ltb v 3 h in
     simp (q, r, l)
 
+-- Two bits are read from no other byte.
 pub two-bits-only : (b v : ℕ) → twoBits b ≡ Ok v → (v < 3) × (64 * v ≡ b)
 two-bits-only b v h = elim (cases-bool (ltb (b / 64) 3)) [
   | inl l ↦ elim (cases-bool (eqb (b % 64) 0)) [

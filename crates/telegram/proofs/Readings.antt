@@ -30,16 +30,18 @@ pub data Reads (t : List ℕ) : ℕ → List PlacedValue → Ending → Type 0 w
       readAt t p ≡ order o first after → Reads t after os e →
       Reads t p (record { what = o; first = first; after = after } ∷ os) e
 
--- The answer at a place, where a byte is left, is of an order there.
+-- An answer of an order that begins at a place.
 abbrev Here : ℕ → ReadValue → Type 0
 Here p (order o first after) = first ≡ p
 Here p (end place) = ⊥
 Here p (fault f first) = first ≡ p
 
+-- What the fields give is answered at the place.
 placed-here : (p n : ℕ) (r : Result OrderValue Fault) → Here p (placed p n r)
 placed-here p n (Ok o) = refl
 placed-here p n (Err f) = refl
 
+-- So is what is read with a kind and a length.
 kind-here : (p : ℕ) (r : Option Kind) (n : ℕ) (bs : List ℕ) → Here p (readKind p r n bs)
 kind-here p None n bs = refl
 kind-here p (Some k) n bs =

@@ -57,10 +57,11 @@ order-back p o rest h =
     ∙ ap (λ (x : Option Kind). readKind p x (b % 16 * 256 + n % 256) bs) (numbered (kindOf o))
     ∙ ap (λ (x : ℕ). readKind p (Some (kindOf o)) x bs) l ∙ kind-back p o rest h
 
--- A refusal and the end are no order.
+-- A refusal is no order.
 pub no-order-fault : (f : Fault) (p : ℕ) (o : OrderValue) (first after : ℕ) → fault f p ≡ order o first after → ⊥
 no-order-fault f p o first after h = let c : _≡_ {A = ℕ} 0 1 = cc in omega arith
 
+-- The end is no order.
 pub no-order-end : (p : ℕ) (o : OrderValue) (first after : ℕ) → end p ≡ order o first after → ⊥
 no-order-end p o first after h = let c : _≡_ {A = ℕ} 0 1 = cc in omega arith
 
@@ -70,7 +71,7 @@ pub placed-only : (p n : ℕ) (r : Result OrderValue Fault) (o : OrderValue) (fi
 placed-only p n (Ok x) o first after h = (cc, cc, cc)
 placed-only p n (Err f) o first after h = absurd (no-order-fault f p o first after h)
 
--- What is read with a kind and a length is an order of that kind and that length.
+-- An order of this kind and this length, read at a place.
 pub record Found (p : ℕ) (k : Kind) (n : ℕ) (bs : List ℕ) (o : OrderValue) (first after : ℕ) : Type 0 where
   pub written : Written o k (take (n - 2) bs)
   pub long : length (take (n - 2) bs) + 2 ≡ n
@@ -78,6 +79,7 @@ pub record Found (p : ℕ) (k : Kind) (n : ℕ) (bs : List ℕ) (o : OrderValue)
   pub from : first ≡ p
   pub to : after ≡ p + n
 
+-- What is read with a kind and a length is such an order.
 pub kind-only : (p : ℕ) (k : Kind) (n : ℕ) (bs : List ℕ) (o : OrderValue) (first after : ℕ) → readKind p (Some k) n bs ≡ order o first after →
     Found p k n bs o first after
 kind-only p k n bs o first after h = elim (cases-bool (takesLength k n)) [
@@ -94,11 +96,13 @@ kind-only p k n bs o first after h = elim (cases-bool (takesLength k n)) [
   | inr t ↦ absurd (no-order-fault WrongLength p o first after (simp t at h))
 ]
 
+-- An order is read only with a kind that there is.
 pub some-kind-only : (p : ℕ) (r : Option Kind) (n : ℕ) (bs : List ℕ) (o : OrderValue) (first after : ℕ) → readKind p r n bs ≡ order o first after →
     (k : Kind) × (r ≡ Some k) × Found p k n bs o first after
 some-kind-only p None n bs o first after h = absurd (no-order-fault UnknownKind p o first after h)
 some-kind-only p (Some k) n bs o first after h = (k, refl, kind-only p k n bs o first after h)
 
+-- Two bytes and the bytes after them, each as in the other list.
 same-bytes : (a b c d : ℕ) (bs cs : List ℕ) → a ≡ b → c ≡ d → bs ≡ cs → a ∷ c ∷ bs ≡ b ∷ d ∷ cs
 same-bytes a b c d bs cs e f g = cc
 

@@ -23,6 +23,7 @@ pub data OrderValue : Type 0 where
   sign : OrderValue
   permission : OrderValue
 
+-- What an order of the code says.
 abbrev pub valueOf : Order → OrderValue
 valueOf (Authority m) = authority m
 valueOf (Level l) = level l
@@ -55,6 +56,7 @@ fieldBytes stop = []
 fieldBytes sign = []
 fieldBytes permission = []
 
+-- The format: all bytes of an order.
 abbrev pub bytesOf : OrderValue → List ℕ
 bytesOf o = header (kindOf o) (2 + length (fieldBytes o)) ++ fieldBytes o
 
@@ -62,11 +64,12 @@ bytesOf o = header (kindOf o) (2 + length (fieldBytes o)) ++ fieldBytes o
 abbrev pub textByte : ℕ → Bool
 textByte b = (leb 32 b && leb b 126) || (leb 160 b && leb b 255)
 
+-- Every byte of a text may stand in one.
 abbrev pub sayable : List ℕ → Bool
 sayable [] = true
 sayable (b ∷ bs) = textByte b && sayable bs
 
--- The fields of an order are in their lists.
+-- The fields of an order are in their lists. A number is any byte.
 abbrev pub InLists : OrderValue → Type 0
 InLists (authority m) = modeBits m < 3
 InLists (level l) = l < 3

@@ -6,6 +6,7 @@ use lib.ListN.{length, take, drop}
 use Rattle.telegram.specs.Format.{OrderValue, InLists, bytesOf}
 use Rattle.telegram.specs.Reading.{ReadValue, ReadValue.order, ReadValue.end, ReadValue.fault}
 
+-- Each follows from the other.
 abbrev pub ExactlyWhen : Type 0 → Type 0 → Type 0
 ExactlyWhen P Q = (P → Q) × (Q → P)
 

@@ -59,11 +59,13 @@ pub data ReadValue : Type 0 where
   end : ℕ → ReadValue
   fault : Fault → ℕ → ReadValue
 
+-- The answer of the code, by its cases.
 abbrev pub answerOf : Read → ReadValue
 answerOf (Read.Order o first after) = order (valueOf o) first after
 answerOf (Read.End place) = end place
 answerOf (Read.Fault f first) = fault f first
 
+-- The answer at a place for an order of this length.
 abbrev pub placed : ℕ → ℕ → Result OrderValue Fault → ReadValue
 placed p n (Ok o) = order o p (p + n)
 placed p n (Err f) = fault f p
@@ -82,5 +84,6 @@ readLeft p [] = end p
 readLeft p (b ∷ []) = fault CutShort p
 readLeft p (b ∷ c ∷ bs) = readKind p (kindNumbered (b / 16)) (b % 16 * 256 + c) bs
 
+-- What the reader answers at a place of a telegram.
 abbrev pub readAt : List ℕ → ℕ → ReadValue
 readAt t p = readLeft p (drop p t)

@@ -19,6 +19,7 @@ pub record PlacedValue : Type 0 where
   pub first : ℕ
   pub after : ℕ
 
+-- A placed order of the code.
 abbrev pub placedOf : Placed → PlacedValue
 placedOf p = record { what = valueOf (p .order); first = p .first; after = p .after }
 
@@ -27,9 +28,11 @@ pub record WholeValue : Type 0 where
   pub orders : List PlacedValue
   pub ending : Ending
 
+-- A reading of the code.
 abbrev pub wholeOf : Reading → WholeValue
 wholeOf g = record { orders = map placedOf (vec-items (g .orders)); ending = g .ending }
 
+-- One more order in front.
 abbrev pub withFirst : PlacedValue → WholeValue → WholeValue
 withFirst o w = record { orders = o ∷ w .orders; ending = w .ending }
 
@@ -40,10 +43,11 @@ readOn n t (fault f first) = record { orders = []; ending = FaultAt f first }
 readOn zero t (order o first after) = record { orders = record { what = o; first = first; after = after } ∷ []; ending = End after }
 readOn (suc n) t (order o first after) = withFirst (record { what = o; first = first; after = after }) (readOn n t (readAt t after))
 
--- A telegram has fewer orders than bytes.
+-- What is read of a whole telegram. It has no more orders than bytes.
 abbrev pub readWhole : List ℕ → WholeValue
 readWhole t = readOn (length t) t (readAt t 0)
 
+-- The reading came to the end.
 abbrev pub Faultless : Ending → Type 0
 Faultless (End place) = Unit {0}
 Faultless (FaultAt f first) = ⊥

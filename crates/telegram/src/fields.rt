@@ -15,7 +15,7 @@ fn byte_at(bytes: &[u8], place: usize) -> u8
 }
 
 // The bytes from a place on, or none past the end.
-pub fn rest(bytes: &[u8], place: usize) -> &[u8]
+pub(crate) fn rest(bytes: &[u8], place: usize) -> &[u8]
     ensures { λ r. ⌜ now r ≡ drop place (now (bytes .entry)) ⌝ }
 {
     if place < bytes.len() {
@@ -77,7 +77,7 @@ fn read_text(fields: &[u8]) -> Result<Order<'_>, Fault>
 }
 
 // The fields of an order of a kind, in its bytes after the first two.
-pub fn read_fields(kind: Kind, fields: &[u8]) -> Result<Order<'_>, Fault>
+pub(crate) fn read_fields(kind: Kind, fields: &[u8]) -> Result<Order<'_>, Fault>
     ensures { λ r. ⌜ saying valueOf r ≡ readFields kind (now (fields .entry)) ⌝ }
 {
     match kind {

@@ -3,7 +3,7 @@ ghost use Rattle.telegram.specs.Kinds.{kindNumbered, takesLength};
 
 // The kinds of orders.
 #[derive(Clone, Copy)]
-pub enum Kind {
+pub(crate) enum Kind {
     Authority,
     Level,
     Text,
@@ -14,7 +14,7 @@ pub enum Kind {
 }
 
 impl Kind {
-    pub fn numbered(number: u8) -> Option<Kind>
+    pub(crate) fn numbered(number: u8) -> Option<Kind>
         ensures { λ r. ⌜ r ≡ kindNumbered number ⌝ }
     {
         match number {
@@ -29,7 +29,7 @@ impl Kind {
         }
     }
 
-    pub fn takes_length(self, length: usize) -> bool
+    pub(crate) fn takes_length(self, length: usize) -> bool
         ensures { λ r. ⌜ r ≡ takesLength self length ⌝ }
     {
         match self {

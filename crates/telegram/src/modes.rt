@@ -53,7 +53,7 @@ impl Mode {
 }
 
 // The mode that two bits of an authority name, which are below 3.
-pub fn listed_mode(bits: u8) -> Mode
+pub(crate) fn listed_mode(bits: u8) -> Mode
     ensures { λ r. ⌜ r ≡ listedMode bits ⌝ }
 {
     match bits {

@@ -25,7 +25,7 @@ pub enum Read<'a> {
 }
 
 // A telegram, read from its start, and the place of the next byte to read.
-#[derive(Clone, Copy)]
+#[derive(Drop)]
 pub struct Reader<'a> {
     telegram: &'a [u8],
     place: usize,
