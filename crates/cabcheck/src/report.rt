@@ -12,13 +12,13 @@ use std::error::AnyError;
 use std::io;
 use std::io::Write;
 use telegram::Ending;
+use telegram::FaultDisplay;
 use telegram::Order;
 use telegram::Placed;
 use telegram::read_all;
 use train_end::BusEnd;
 use train_end::PulseEnd;
 use window::Window;
-use telegram::FaultDisplay;
 
 // How many there were of what the last line counts.
 #[derive(Clone, Copy)]
@@ -72,8 +72,17 @@ fn print_order<W: Write>(out: &mut W, order: &Order<'_>) -> io::Result<()> {
     }
 }
 
-fn print_placed<W: Write>(out: &mut W, line: usize, placed: &Placed<'_>, shown: Shown) -> io::Result<()> {
-    write!(out, "{line:>6}  order   {:>4} to {:>4}  ", placed.first, placed.after)?;
+fn print_placed<W: Write>(
+    out: &mut W,
+    line: usize,
+    placed: &Placed<'_>,
+    shown: Shown,
+) -> io::Result<()> {
+    write!(
+        out,
+        "{line:>6}  order   {:>4} to {:>4}  ",
+        placed.first, placed.after
+    )?;
     print_order(out, &placed.order)?;
     match shown {
         Shown::Refused(refusal) => writeln!(out, "  (window: {})", refusal.number()),
@@ -85,7 +94,11 @@ fn print_ending<W: Write>(out: &mut W, line: usize, ending: Ending) -> io::Resul
     match ending {
         Ending::End { place } => writeln!(out, "{line:>6}  end     {place:>4}"),
         Ending::Fault { fault, first } => {
-            writeln!(out, "{line:>6}  fault   {first:>4}          {}: {fault}", fault.number())
+            writeln!(
+                out,
+                "{line:>6}  fault   {first:>4}          {}: {fault}",
+                fault.number()
+            )
         }
     }
 }
@@ -157,7 +170,15 @@ pub fn print_list<W: Write>(out: &mut W, heap: Global, listed: &[Listed]) -> Res
                 }
             }
             Entry::Telegram(bytes) => {
-                print_telegram(out, heap, one.line, bytes, &mut window, &mut store, &mut counts)?
+                print_telegram(
+                    out,
+                    heap,
+                    one.line,
+                    bytes,
+                    &mut window,
+                    &mut store,
+                    &mut counts,
+                )?
             }
         }
     }
@@ -167,6 +188,10 @@ pub fn print_list<W: Write>(out: &mut W, heap: Global, listed: &[Listed]) -> Res
 
 fn print_counts<W: Write>(out: &mut W, counts: &Counts) -> io::Result<()> {
     write!(out, "{} cycles, {} differ", counts.cycles, counts.differing)?;
-    write!(out, "; {} telegrams, {} orders", counts.telegrams, counts.orders)?;
+    write!(
+        out,
+        "; {} telegrams, {} orders",
+        counts.telegrams, counts.orders
+    )?;
     writeln!(out, ", {} faults", counts.faults)
 }

@@ -15,7 +15,13 @@ pub struct Row {
 }
 
 // Gives each end its block, asked for by the line of that number.
-pub fn feed(bus: &mut BusEnd, pulse: &mut PulseEnd, line: usize, bus_block: &[u8], pulse_block: &[u8]) -> Row
+pub fn feed(
+    bus: &mut BusEnd,
+    pulse: &mut PulseEnd,
+    line: usize,
+    bus_block: &[u8],
+    pulse_block: &[u8],
+) -> Row
     ensures { λ r. ⌜ r ≡ rowOf line (now («bus_block» .entry)) (now («pulse_block» .entry)) ⌝ }
 {
     bus.give_block(bus_block);

@@ -20,7 +20,11 @@ fn bad_lines(rt: LibcRuntime) -> Result<(), Fail> {
     let heap = rt.alloc();
     for (text, line, wrong) in [
         ("cycle 8000", 1, Wrong::MissingWord),
-        ("\n# a comment\n  cycle 8000 00000000 x\n", 3, Wrong::ExtraWord),
+        (
+            "\n# a comment\n  cycle 8000 00000000 x\n",
+            3,
+            Wrong::ExtraWord,
+        ),
         ("cycle 8000 0000000\ncycle", 1, Wrong::NotHexadecimal),
         ("cycle 80g0 -", 1, Wrong::NotHexadecimal),
         ("telegram 6002 6002", 1, Wrong::ExtraWord),

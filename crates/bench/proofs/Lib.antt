@@ -1,0 +1,12 @@
+pub mod Reached
+pub mod Lists
+pub mod Apartness
+pub mod Booking
+pub mod Balance
+pub mod Passing
+pub mod Awaiting
+pub mod Standing
+pub mod Accepted
+pub mod Speeds
+pub mod Texts
+pub mod Likely

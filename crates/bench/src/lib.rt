@@ -1,0 +1,6 @@
+// The bench: whole lists of calls on an unused unit, the book kept of them, and the laws over runs.
+mod edges;
+mod laws;
+
+pub use edges::edges_stand;
+pub use laws::laws_stand;

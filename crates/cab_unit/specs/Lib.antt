@@ -1,0 +1,15 @@
+pub mod Sorting
+pub mod Numbers
+pub mod Requests
+pub mod State
+pub mod Events
+pub mod Heard
+pub mod Buttons
+pub mod Refusing
+pub mod Moves
+pub mod Orders
+pub mod Presses
+pub mod Cycles
+pub mod Line
+pub mod Steps
+pub mod Facts
