@@ -17,7 +17,7 @@ use Rattle.cab_unit.specs.declared.request.Class.{Class}
 use Rattle.cab_unit.specs.declared.request.Request.{Request}
 use Rattle.bench.specs.Book.{closed, identical, sameMark}
 use Rattle.cab_unit.proofs.Sorted.{tally-none}
-use Rattle.cab_unit.proofs.Waiting.{same-self}
+use Rattle.cab_unit.proofs.Queue.{same-self}
 use Rattle.bench.proofs.Lists.{kept-others}
 
 -- a mark is itself

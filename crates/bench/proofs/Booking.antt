@@ -26,7 +26,8 @@ use Rattle.cab_unit.specs.Moves.{withAuthority, withPending, onDesk, entered, w
 use Rattle.cab_unit.specs.Numbers.{isMode, isLevel, levelNumber, levelOf}
 use Rattle.cab_unit.specs.Orders.{authorized, unauthorized, authorityChange, levelled, levelChange, textChange, orderChange}
 use Rattle.cab_unit.specs.Presses.{entersBy, enteredIf, withdrawnIf, acknowledgeChange, startChange, closeChange, pressChange}
-use Rattle.cab_unit.specs.Refusing.{needing, failed, refusal, orderRefusal}
+use Rattle.cab_unit.specs.Needing.{needing}
+use Rattle.cab_unit.specs.Refusing.{failed, refusal, orderRefusal}
 use Rattle.cab_unit.specs.Requests.{ofClass, notOfClass, isFor, waits, numberOf, restOf}
 use Rattle.cab_unit.specs.Sorting.{tally}
 use Rattle.cab_unit.specs.State.{State, moving}

@@ -10,3 +10,5 @@ pub mod Accepted
 pub mod Speeds
 pub mod Texts
 pub mod Likely
+pub mod Running
+pub mod Both

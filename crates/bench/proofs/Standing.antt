@@ -27,7 +27,8 @@ use Rattle.cab_unit.specs.Moves.{change, quiet, raising, request, entered, with
 use Rattle.cab_unit.specs.Numbers.{isMode, isLevel, levelNumber, levelOf}
 use Rattle.cab_unit.specs.Orders.{authorized, authorityChange, levelled, unauthorized, levelChange, orderChange}
 use Rattle.cab_unit.specs.Presses.{enteredIf, withdrawnIf, acknowledgeChange, startChange, closeChange, pressChange}
-use Rattle.cab_unit.specs.Refusing.{refusal, callRefusal, orderRefusal, needing, failed}
+use Rattle.cab_unit.specs.Needing.{needing}
+use Rattle.cab_unit.specs.Refusing.{refusal, callRefusal, orderRefusal, failed}
 use Rattle.cab_unit.specs.Requests.{ofClass, notOfClass, isFor, waits, overdue, anyOverdue}
 use Rattle.cab_unit.specs.State.{State, moving}
 use Rattle.cab_unit.specs.Steps.{changed, stateAt, answerAt, next, reply, switchedOn, withTrain}

@@ -5,3 +5,5 @@ pub mod Likeness
 pub mod Laws
 pub mod Edges
 pub mod Readings
+pub mod View
+pub mod Both

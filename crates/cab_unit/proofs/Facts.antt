@@ -25,6 +25,7 @@ use Rattle.cab_unit.specs.Line.{settled}
 use Rattle.cab_unit.specs.Moves.{withMode, withLevel, withAuthority, withPending, onDesk, onWaiting, entered, failing, request, raised, Change}
 use Rattle.cab_unit.specs.Numbers.{classNumber, levelNumber, levelOf, isMode, isLevel}
 use Rattle.cab_unit.specs.Orders.{authorized, authorityChange, levelled, levelChange, textChange, orderChange}
+use Rattle.cab_unit.specs.Places.{limit}
 use Rattle.cab_unit.specs.Presses.{enteredIf, acknowledgeChange, startChange, withoutTrain, closeChange, pressChange}
 use Rattle.cab_unit.specs.Refusing.{textRefusal, orderRefusal, callRefusal, refusal}
 use Rattle.cab_unit.specs.Requests.{before, ofClass, notOfClass, isFor, waits, numberOf}
@@ -40,7 +41,7 @@ use Rattle.cab_unit.specs.declared.request.Class.the-variants as class
 use Rattle.cab_unit.specs.declared.request.Request.{Request}
 use Rattle.cab_unit.proofs.Heard.{cond-none, needing-none, accepted, authority-is, level-is, stop-is, listed-is}
 use Rattle.cab_unit.proofs.Sorted.{all-both, all-put, none-tally, tally-none, none-some, tally-kept}
-use Rattle.cab_unit.proofs.Waiting.{none-for, number-withdrawn, number-other, number-put, limit, Queue, queue-put, queue-kept, queue-rest}
+use Rattle.cab_unit.proofs.Queue.{none-for, number-withdrawn, number-other, number-put, Queue, queue-put, queue-kept, queue-rest}
 
 -- a test does not both fail and pass
 against : {A : Type 0} {b : Bool} → b ≡ false → b ≡ true → A

@@ -11,7 +11,8 @@ use Rattle.cab_unit.specs.Buttons.{supervised, startable}
 use Rattle.cab_unit.specs.Events.{Event}
 use Rattle.cab_unit.specs.Heard.{hearsAuthority, hearsLevel, hearsStop, isListed}
 use Rattle.cab_unit.specs.Numbers.{isMode}
-use Rattle.cab_unit.specs.Refusing.{needing, callRefusal, failed, refusal}
+use Rattle.cab_unit.specs.Needing.{needing}
+use Rattle.cab_unit.specs.Refusing.{callRefusal, failed, refusal}
 use Rattle.cab_unit.specs.State.{State}
 use Rattle.cab_unit.specs.declared.refusal.Refusal.{Refusal}
 use Rattle.cab_unit.specs.declared.refusal.Refusal.the-variants.{InSystemFailure}

@@ -1,6 +1,13 @@
 pub mod Sorted
 pub mod Before
-pub mod Waiting
+pub mod Queue
 pub mod Heard
 pub mod Facts
+pub mod Places
+pub mod Turns
+pub mod Scans
+pub mod Room
+pub mod Alone
+pub mod Known
+pub mod Stepping
 pub mod Reading

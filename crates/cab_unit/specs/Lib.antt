@@ -5,6 +5,8 @@ pub mod State
 pub mod Events
 pub mod Heard
 pub mod Buttons
+pub mod Needing
+pub mod Records
 pub mod Refusing
 pub mod Moves
 pub mod Orders
@@ -13,3 +15,5 @@ pub mod Cycles
 pub mod Line
 pub mod Steps
 pub mod Facts
+pub mod Places
+pub mod View

@@ -6,8 +6,7 @@ use Prim.Native.Nat.{ℕ, _+_, _-_, _<_, suc}
 use native.Mathlib.Omega.{arith}
 use Rattle.std.specs.declared.option.Option.{Option}
 use Rattle.std.specs.declared.option.Option.the-variants.{Some}
-use Rattle.call_list.specs.Words.{wordOf, afterWord}
-use Rattle.call_list.specs.Lines.{countFault, isEmpty}
+use Rattle.call_list.specs.Words.{wordOf, afterWord, isEmpty, countFault}
 use Rattle.call_list.specs.declared.entry.Wrong.{Wrong}
 use Rattle.call_list.specs.declared.entry.Wrong.the-variants.{MissingWord}
 

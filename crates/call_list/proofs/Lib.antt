@@ -1,4 +1,5 @@
 mod Places
 mod Pairs
 mod Counts
+mod Decimals
 mod Texts

@@ -14,7 +14,7 @@ use Rattle.call_list.specs.Lists.{onFirst, linesOf, firstLine, afterLine, List
 use Rattle.std.specs.declared.result.Result.{Result}
 use Rattle.std.specs.declared.result.Result.the-variants.{Ok, Err}
 use Rattle.call_list.specs.declared.entry.Entry.{Entry}
-use Rattle.call_list.specs.declared.entry.Entry.the-variants.{Cycle, Telegram}
+use Rattle.call_list.specs.declared.entry.Entry.the-variants.{Cycle, Telegram, Press, Record, Order}
 use Rattle.call_list.specs.declared.listed.Listed.{Listed}
 use Rattle.call_list.specs.declared.listed.ListFault.{ListFault}
 use Rattle.call_list.specs.declared.listed.ListFault.the-variants.{Line, NoMemory}
@@ -39,6 +39,9 @@ behind-behind xs ys (badLine n w) = refl
 entry-line : (n : ℕ) (e : Entry) (rest : ListValue) → withLine n (valueOf e) rest ≡ behind ((n, valueOf e) ∷ []) rest
 entry-line n (Cycle bus pulse) rest = refl
 entry-line n (Telegram bytes) rest = refl
+entry-line n (Press b) rest = refl
+entry-line n (Record driver length percentage speed) rest = refl
+entry-line n (Order o) rest = refl
 
 pub kept-noted : (one : Listed) (value : LineValue) (before after : List Listed) (r : Result Unit ListFault) →
     value ≡ valueOf (one .entry) → Kept one before after r → Noted (one .line) value before after r

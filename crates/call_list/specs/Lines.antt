@@ -1,23 +1,26 @@
 -- What a line of a call list asks for.
 use mathlib.Core.Path.{_≡_}
-use mathlib.Core.Bool.{Bool, cond}
-use mathlib.Core.List.{List, [], _∷_}
-use Prim.Native.Nat.{ℕ, zero, suc}
+use mathlib.Core.Bool.{cond, _||_}
+use mathlib.Core.List.{List}
+use Prim.Native.Nat.{ℕ}
 use lib.Chars.{codes}
 use lib.Dec.{eqb}
-use lib.ListN.{length}
+use lib.ListN.{getD}
 use Rattle.std.specs.Of.Vec.{vec-items}
 use Rattle.std.specs.shelf.Text.{sameBytes}
 use Rattle.std.specs.declared.option.Option.{Option}
 use Rattle.std.specs.declared.option.Option.the-variants.{Some, None}
 use Rattle.std.specs.declared.result.Result.{Result}
 use Rattle.std.specs.declared.result.Result.the-variants.{Ok, Err}
+use Rattle.telegram.specs.Format.{OrderValue, valueOf as said}
 use Rattle.call_list.specs.Hex.{hexBytes}
-use Rattle.call_list.specs.Words.{wordOf, afterWord}
+use Rattle.call_list.specs.Numbers.{numberWanted}
+use Rattle.call_list.specs.Orders.{orderOf}
+use Rattle.call_list.specs.Words.{wordOf, afterWord, isEmpty, countFault}
 use Rattle.call_list.specs.declared.entry.Entry.{Entry}
-use Rattle.call_list.specs.declared.entry.Entry.the-variants.{Cycle, Telegram}
+use Rattle.call_list.specs.declared.entry.Entry.the-variants.{Cycle, Telegram, Press, Record, Order}
 use Rattle.call_list.specs.declared.entry.Wrong.{Wrong}
-use Rattle.call_list.specs.declared.entry.Wrong.the-variants.{UnknownCall, MissingWord, ExtraWord, NotHexadecimal}
+use Rattle.call_list.specs.declared.entry.Wrong.the-variants.{UnknownCall, NotHexadecimal}
 use Rattle.call_list.specs.declared.entry.LineFault.{LineFault}
 use Rattle.call_list.specs.declared.entry.LineFault.the-variants.{Bad, NoMemory}
 use Rattle.call_list.specs.declared.line.Verb.{Verb}
@@ -28,24 +31,21 @@ pub data LineValue : Type 0 where
   passed : LineValue
   cycle : List ℕ → List ℕ → LineValue
   telegram : List ℕ → LineValue
+  press : ℕ → LineValue
+  draft : ℕ → ℕ → ℕ → ℕ → LineValue
+  order : OrderValue → LineValue
   wrong : Wrong → LineValue
 
 -- an empty word begins a blank line, and # (35) a comment
 abbrev pub verbOf : List ℕ → Verb
-verbOf [] = verbs.Nothing
-verbOf (b ∷ word) =
-    cond (eqb b 35) verbs.Nothing
-    (cond (sameBytes (b ∷ word) (codes "cycle")) verbs.Cycle
-    (cond (sameBytes (b ∷ word) (codes "telegram")) verbs.Telegram
-    verbs.Unknown))
-
-abbrev pub isEmpty : List ℕ → Bool
-isEmpty word = eqb (length word) 0
-
--- what is wrong with the number of words, where n are wanted
-abbrev pub countFault : ℕ → List ℕ → Option Wrong
-countFault zero rest = cond (isEmpty (wordOf rest)) None (Some ExtraWord)
-countFault (suc n) rest = cond (isEmpty (wordOf rest)) (Some MissingWord) (countFault n (afterWord rest))
+verbOf word =
+    cond (isEmpty word || eqb (getD word 0 0) 35) verbs.Nothing
+    (cond (sameBytes word (codes "cycle")) verbs.Cycle
+    (cond (sameBytes word (codes "telegram")) verbs.Telegram
+    (cond (sameBytes word (codes "press")) verbs.Press
+    (cond (sameBytes word (codes "record")) verbs.Record
+    (cond (sameBytes word (codes "order")) verbs.Order
+    verbs.Unknown)))))
 
 abbrev pub unless : Option Wrong → LineValue → LineValue
 unless None value = value
@@ -68,10 +68,38 @@ telegramOf (Some bytes) = telegram bytes
 abbrev pub telegramLine : List ℕ → LineValue
 telegramLine rest = unless (countFault 1 rest) (telegramOf (hexBytes (wordOf rest)))
 
+abbrev pub withValue : {T : Type 0} → Result T Wrong → (T → LineValue) → LineValue
+withValue (Err w) line = wrong w
+withValue (Ok value) line = line value
+
+-- a press has one word, the button's number
+abbrev pub pressLine : List ℕ → LineValue
+pressLine rest = unless (countFault 1 rest) (withValue (numberWanted 255 (wordOf rest)) press)
+
+abbrev pub withNumber : List ℕ → (ℕ → LineValue) → LineValue
+withNumber rest line = withValue (numberWanted 4294967295 (wordOf rest)) line
+
+-- a record has four words: driver, length, percentage and speed
+abbrev pub recordOf : List ℕ → List ℕ → List ℕ → List ℕ → LineValue
+recordOf first second third fourth =
+    withNumber first (λ driver. withNumber second (λ length. withNumber third (λ percentage. withNumber fourth (λ speed.
+    draft driver length percentage speed))))
+
+abbrev pub recordLine : List ℕ → LineValue
+recordLine rest =
+    unless (countFault 4 rest) (recordOf rest (afterWord rest) (afterWord (afterWord rest)) (afterWord (afterWord (afterWord rest))))
+
+-- an order has a name, and the words that go with it
+abbrev pub orderLine : List ℕ → LineValue
+orderLine rest = withValue (orderOf rest) order
+
 abbrev pub byVerb : Verb → List ℕ → LineValue
 byVerb verbs.Nothing rest = passed
 byVerb verbs.Cycle rest = cycleLine rest
 byVerb verbs.Telegram rest = telegramLine rest
+byVerb verbs.Press rest = pressLine rest
+byVerb verbs.Record rest = recordLine rest
+byVerb verbs.Order rest = orderLine rest
 byVerb verbs.Unknown rest = wrong UnknownCall
 
 abbrev pub lineOf : List ℕ → LineValue
@@ -80,6 +108,9 @@ lineOf line = byVerb (verbOf (wordOf line)) (afterWord line)
 abbrev pub valueOf : Entry → LineValue
 valueOf (Cycle bus pulse) = cycle (vec-items bus) (vec-items pulse)
 valueOf (Telegram bytes) = telegram (vec-items bytes)
+valueOf (Press n) = press n
+valueOf (Record driver length percentage speed) = draft driver length percentage speed
+valueOf (Order o) = order (said o)
 
 -- a value is read, or it is wrong and the fault says how; want of memory says nothing of it
 abbrev pub Reads : LineValue → Result Entry LineFault → Type 0

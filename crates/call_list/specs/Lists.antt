@@ -10,7 +10,7 @@ use Rattle.std.specs.declared.result.Result.{Result}
 use Rattle.std.specs.declared.result.Result.the-variants.{Ok, Err}
 use Rattle.std.specs.declared.vec.Vec.{Vec}
 use Rattle.call_list.specs.Words.{isBreak, placeOf}
-use Rattle.call_list.specs.Lines.{LineValue, passed, cycle, telegram, wrong, lineOf, valueOf}
+use Rattle.call_list.specs.Lines.{LineValue, passed, cycle, telegram, press, draft, order, wrong, lineOf, valueOf}
 use Rattle.call_list.specs.declared.entry.Wrong.{Wrong}
 use Rattle.call_list.specs.declared.listed.Listed.{Listed}
 use Rattle.call_list.specs.declared.listed.ListFault.{ListFault}
@@ -45,6 +45,9 @@ abbrev pub withLine : ℕ → LineValue → ListValue → ListValue
 withLine n passed rest = rest
 withLine n (cycle bus pulse) rest = behind ((n, cycle bus pulse) ∷ []) rest
 withLine n (telegram bytes) rest = behind ((n, telegram bytes) ∷ []) rest
+withLine n (press b) rest = behind ((n, press b) ∷ []) rest
+withLine n (draft driver length percentage speed) rest = behind ((n, draft driver length percentage speed) ∷ []) rest
+withLine n (order o) rest = behind ((n, order o) ∷ []) rest
 withLine n (wrong w) rest = badLine n w
 
 -- the list whose first line has the number n

@@ -1,9 +1,13 @@
 -- The words of a text.
 use mathlib.Core.Bool.{Bool, cond, not, _||_}
 use mathlib.Core.List.{List, [], _∷_}
-use Prim.Native.Nat.{ℕ, suc}
+use Prim.Native.Nat.{ℕ, zero, suc}
 use lib.Dec.{eqb}
-use lib.ListN.{take, drop}
+use lib.ListN.{length, take, drop}
+use Rattle.std.specs.declared.option.Option.{Option}
+use Rattle.std.specs.declared.option.Option.the-variants.{Some, None}
+use Rattle.call_list.specs.declared.entry.Wrong.{Wrong}
+use Rattle.call_list.specs.declared.entry.Wrong.the-variants.{MissingWord, ExtraWord}
 
 -- a space, a tab or a carriage return
 abbrev pub isBlank : ℕ → Bool
@@ -30,3 +34,11 @@ wordOf text = take (placeOf isBlank (fromWord text)) (fromWord text)
 -- what stands after it
 abbrev pub afterWord : List ℕ → List ℕ
 afterWord text = drop (placeOf isBlank (fromWord text)) (fromWord text)
+
+abbrev pub isEmpty : List ℕ → Bool
+isEmpty word = eqb (length word) 0
+
+-- what is wrong with the number of words, where n are wanted
+abbrev pub countFault : ℕ → List ℕ → Option Wrong
+countFault zero rest = cond (isEmpty (wordOf rest)) None (Some ExtraWord)
+countFault (suc n) rest = cond (isEmpty (wordOf rest)) (Some MissingWord) (countFault n (afterWord rest))

@@ -4,6 +4,9 @@ mod hex;
 mod line;
 mod list;
 mod listed;
+mod modes;
+mod numbers;
+mod order;
 mod words;
 
 pub use entry::Entry;

@@ -1,12 +1,17 @@
 ghost use mathlib.Core.Path.{_≡_};
 ghost use Rattle.std.specs.Of.Vec.{vec-items};
 ghost use Rattle.call_list.specs.Hex.{hexBytes};
-ghost use Rattle.call_list.specs.Lines.{verbOf, countFault, cycleLine, telegramLine, lineOf, Reads, ReadsLine, ReadsBytes};
+ghost use Rattle.call_list.specs.Lines.{verbOf, cycleLine, telegramLine, pressLine, recordLine, orderLine, lineOf, Reads, ReadsLine, ReadsBytes};
 use crate::entry::Entry;
 use crate::entry::LineFault;
+use crate::entry::LineFaultFromWrong;
 use crate::entry::Wrong;
 use crate::hex::decode;
+use crate::numbers::byte_wanted;
+use crate::numbers::number_wanted;
+use crate::order::order_of;
 use crate::words::after_word;
+use crate::words::count_fault;
 use crate::words::first_word;
 use crate::words::same;
 use std::alloc::Global;
@@ -18,6 +23,9 @@ pub(crate) enum Verb {
     Nothing,
     Cycle,
     Telegram,
+    Press,
+    Record,
+    Order,
     Unknown,
 }
 
@@ -33,25 +41,16 @@ fn verb_of(word: &[u8]) -> Verb
     if same(word, b"telegram") {
         return Verb::Telegram;
     }
+    if same(word, b"press") {
+        return Verb::Press;
+    }
+    if same(word, b"record") {
+        return Verb::Record;
+    }
+    if same(word, b"order") {
+        return Verb::Order;
+    }
     Verb::Unknown
-}
-
-// What is wrong with the number of words in a text, where `wanted` are due.
-fn count_fault(text: &[u8], wanted: u8) -> Option<Wrong>
-    ensures { λ r. ⌜ r ≡ countFault wanted (now (text .entry)) ⌝ }
-{
-    let mut rest = text;
-    for _ in 0..wanted {
-        if first_word(rest).is_empty() {
-            return Some(Wrong::MissingWord);
-        }
-        rest = after_word(rest);
-    }
-    if first_word(rest).is_empty() {
-        None
-    } else {
-        Some(Wrong::ExtraWord)
-    }
 }
 
 fn bytes_of(heap: Global, word: &[u8]) -> Result<Vec<u8>, LineFault>
@@ -85,6 +84,44 @@ fn read_telegram(heap: Global, rest: &[u8]) -> Result<Entry, LineFault>
     Ok(Entry::Telegram(bytes))
 }
 
+fn read_press(rest: &[u8]) -> Result<Entry, LineFault>
+    ensures { λ r. ⌜ Reads (pressLine (now (rest .entry))) r ⌝ }
+{
+    if let Some(wrong) = count_fault(rest, 1) {
+        return Err(LineFault::Bad(wrong));
+    }
+    let button = byte_wanted(first_word(rest))?;
+    Ok(Entry::Press(button))
+}
+
+fn read_record(rest: &[u8]) -> Result<Entry, LineFault>
+    ensures { λ r. ⌜ Reads (recordLine (now (rest .entry))) r ⌝ }
+{
+    if let Some(wrong) = count_fault(rest, 4) {
+        return Err(LineFault::Bad(wrong));
+    }
+    let second = after_word(rest);
+    let third = after_word(second);
+    let fourth = after_word(third);
+    let driver = number_wanted(first_word(rest), u32::MAX)?;
+    let length = number_wanted(first_word(second), u32::MAX)?;
+    let percentage = number_wanted(first_word(third), u32::MAX)?;
+    let speed = number_wanted(first_word(fourth), u32::MAX)?;
+    Ok(Entry::Record {
+        driver,
+        length,
+        percentage,
+        speed,
+    })
+}
+
+fn read_order(rest: &[u8]) -> Result<Entry, LineFault>
+    ensures { λ r. ⌜ Reads (orderLine (now (rest .entry))) r ⌝ }
+{
+    let order = order_of(rest)?;
+    Ok(Entry::Order(order))
+}
+
 // What a line asks for; none where it is blank or a comment.
 pub(crate) fn read_line(heap: Global, line: &[u8]) -> Result<Option<Entry>, LineFault>
     ensures { λ r. ⌜ ReadsLine (lineOf (now (line .entry))) r ⌝ }
@@ -98,6 +135,18 @@ pub(crate) fn read_line(heap: Global, line: &[u8]) -> Result<Option<Entry>, Line
         }
         Verb::Telegram => {
             let entry = read_telegram(heap, rest)?;
+            Ok(Some(entry))
+        }
+        Verb::Press => {
+            let entry = read_press(rest)?;
+            Ok(Some(entry))
+        }
+        Verb::Record => {
+            let entry = read_record(rest)?;
+            Ok(Some(entry))
+        }
+        Verb::Order => {
+            let entry = read_order(rest)?;
             Ok(Some(entry))
         }
         Verb::Unknown => Err(LineFault::Bad(Wrong::UnknownCall)),

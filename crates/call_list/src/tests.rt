@@ -6,6 +6,7 @@ use crate::entry::WrongPartialEq;
 use crate::read_list;
 use std::alloc::Global;
 use std::test::*;
+use telegram::Order;
 
 // The first bad line of a list and what is wrong there; none where all are good.
 fn bad_line(heap: Global, text: &str) -> Option<(usize, Wrong)> {
@@ -29,8 +30,66 @@ fn bad_lines(rt: LibcRuntime) -> Result<(), Fail> {
         ("cycle 80g0 -", 1, Wrong::NotHexadecimal),
         ("telegram 6002 6002", 1, Wrong::ExtraWord),
         ("cycle - -\r\ncycles - -", 2, Wrong::UnknownCall),
+        ("press 255\npress 256", 2, Wrong::NotANumber),
+        ("record 1 2 3", 1, Wrong::MissingWord),
+        ("record 1 2 x 4294967296", 1, Wrong::NotANumber),
+        ("order", 1, Wrong::MissingWord),
+        ("order halt 1 2", 1, Wrong::UnknownOrder),
+        ("order stop 1", 1, Wrong::ExtraWord),
+        ("order authority fs", 1, Wrong::UnknownMode),
+        ("order text 1 seen", 1, Wrong::NeitherWantedNorShown),
     ] {
         check_eq(bad_line(heap, text), Some((line, wrong))).note(text)?;
+    }
+    Ok(())
+}
+
+// A press, a record or an order in numbers: its kind, then what it holds.
+fn numbers(entry: &Entry) -> [u32; 5] {
+    match entry {
+        Entry::Press(n) => [1, *n as u32, 0, 0, 0],
+        Entry::Record {
+            driver,
+            length,
+            percentage,
+            speed,
+        } => [2, *driver, *length, *percentage, *speed],
+        Entry::Order(Order::Authority(mode)) => [3, mode.code() as u32, 0, 0, 0],
+        Entry::Order(Order::Level(n)) => [4, *n as u32, 0, 0, 0],
+        Entry::Order(Order::Text { number, wanted, .. }) => {
+            [5, *number as u32, *wanted as u32, 0, 0]
+        }
+        Entry::Order(Order::TextWithdrawal(n)) => [6, *n as u32, 0, 0, 0],
+        Entry::Order(Order::EmergencyStop) => [7, 0, 0, 0, 0],
+        Entry::Order(Order::Permission) => [8, 0, 0, 0, 0],
+        Entry::Order(Order::Sign) => [9, 0, 0, 0, 0],
+        _ => [0, 0, 0, 0, 0],
+    }
+}
+
+fn first_numbers(heap: Global, text: &str) -> Option<[u32; 5]> {
+    match read_list(heap, text.as_bytes()) {
+        Ok(listed) if listed.len() == 1 => Some(numbers(&listed[0].entry)),
+        _ => None,
+    }
+}
+
+#[test]
+fn calls_in_numbers(rt: LibcRuntime) -> Result<(), Fail> {
+    let heap = rt.alloc();
+    for (text, found) in [
+        ("press 010", [1, 10, 0, 0, 0]),
+        ("record 7 4294967295 0 12", [2, 7, 4294967295, 0, 12]),
+        ("order authority SF", [3, 9, 0, 0, 0]),
+        ("order level 3", [4, 3, 0, 0, 0]),
+        ("order text 20 wanted", [5, 20, 1, 0, 0]),
+        ("order text 21 shown", [5, 21, 0, 0, 0]),
+        ("order withdraw 20", [6, 20, 0, 0, 0]),
+        ("order stop", [7, 0, 0, 0, 0]),
+        ("order permission", [8, 0, 0, 0, 0]),
+        ("order sign", [9, 0, 0, 0, 0]),
+    ] {
+        check_eq(first_numbers(heap, text), Some(found)).note(text)?;
     }
     Ok(())
 }

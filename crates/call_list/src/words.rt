@@ -3,7 +3,8 @@ ghost use mathlib.Core.Bool.{Bool};
 ghost use Prim.Native.Nat.{ℕ, _≤_};
 ghost use lib.ListN.{length};
 ghost use Rattle.std.specs.shelf.Text.{sameBytes};
-ghost use Rattle.call_list.specs.Words.{isBlank, isPrinting, isBreak, placeOf, fromWord, wordOf, afterWord};
+ghost use Rattle.call_list.specs.Words.{isBlank, isPrinting, isBreak, placeOf, fromWord, wordOf, afterWord, countFault};
+use crate::entry::Wrong;
 
 // A test of one byte of the text.
 pub(crate) trait ByteTest {
@@ -89,4 +90,22 @@ pub(crate) fn same(word: &[u8], other: &[u8]) -> bool
     ensures { λ r. ⌜ r ≡ sameBytes (now (word .entry)) (now (other .entry)) ⌝ }
 {
     word == other
+}
+
+// What is wrong with the number of words in a text, where `wanted` are due.
+pub(crate) fn count_fault(text: &[u8], wanted: u8) -> Option<Wrong>
+    ensures { λ r. ⌜ r ≡ countFault wanted (now (text .entry)) ⌝ }
+{
+    let mut rest = text;
+    for _ in 0..wanted {
+        if first_word(rest).is_empty() {
+            return Some(Wrong::MissingWord);
+        }
+        rest = after_word(rest);
+    }
+    if first_word(rest).is_empty() {
+        None
+    } else {
+        Some(Wrong::ExtraWord)
+    }
 }

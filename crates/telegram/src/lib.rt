@@ -14,6 +14,7 @@ pub use examples::halt_telegram;
 pub use faults::Fault;
 pub use faults::FaultDisplay;
 pub use modes::Mode;
+pub use modes::ModePartialEq;
 pub use orders::Order;
 pub use reader::Read;
 pub use reader::Reader;

@@ -5,6 +5,7 @@ mod end;
 mod pulse;
 
 pub use brake_line::BrakeLine;
+pub use brake_line::BrakeLinePartialEq;
 pub use bus::BusEnd;
 pub use bus::BusTrainEnd;
 pub use end::TrainEnd;
