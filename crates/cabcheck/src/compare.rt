@@ -195,15 +195,16 @@ fn was_given(answer: &Answer) -> bool {
     answer.outcome.is_none() && answer.mode.code() != Mode::SystemFailure.code()
 }
 
-// Whether the two ends have the same speed after each cycle, as they had when switched on.
-pub fn equal_speeds(
+// After how many calls the two ends have different speeds; both had none when switched on.
+pub fn unequal_speeds(
     calls: &[Call<'_>],
     others: &[Call<'_>],
     answers: &[Answer],
     other_answers: &[Answer],
-) -> bool {
+) -> usize {
     let mut bus = None;
     let mut pulse = None;
+    let mut unequal = 0usize;
     for ((call, other), (answer, other_answer)) in calls
         .iter()
         .zip(others.iter())
@@ -219,10 +220,10 @@ pub fn equal_speeds(
             }
         }
         if bus != pulse {
-            return false;
+            unequal = unequal.saturating_add(1);
         }
     }
-    true
+    unequal
 }
 
 // How many answers were compared, those of a stretch in another order left out, and how many of them differ.

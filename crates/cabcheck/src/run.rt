@@ -1,7 +1,7 @@
 use crate::compare::Counts;
 use crate::compare::compare_lists;
 use crate::compare::count_answers;
-use crate::compare::equal_speeds;
+use crate::compare::unequal_speeds;
 use crate::input::read_source;
 use crate::options::Options;
 use crate::plan::Cab;
@@ -133,12 +133,10 @@ fn print_ran(
         print_tsv(&mut out, Cab::Pulse, &pulse_side)?;
     } else {
         print_table(&mut out, heap, bus_side, pulse_side, &likeness)?;
+        let unequal = unequal_speeds(&bus.calls, &pulse.calls, answers, other_answers);
+        writeln!(out, "the speeds differ after {unequal} calls")?;
         if second {
-            print_likeness(
-                &mut out,
-                likeness.alike,
-                equal_speeds(&bus.calls, &pulse.calls, answers, other_answers),
-            )?;
+            print_likeness(&mut out, likeness.alike, unequal == 0)?;
         }
         print_verdict(&mut out, answers.len(), other_answers.len(), counts)?;
     }

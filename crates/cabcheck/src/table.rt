@@ -20,6 +20,8 @@ use std::io;
 use std::io::Write;
 use telegram::Fault;
 use telegram::FaultDisplay;
+use train_end::BusEnd;
+use train_end::PulseEnd;
 use window::Window;
 
 // What one cab has to tell in a row.
@@ -64,7 +66,7 @@ fn print_answer<W: Write>(
     line: usize,
     cab: &str,
     call: &str,
-    places: Option<(usize, usize)>,
+    column: Column,
     answer: &Answer,
 ) -> Result<(), AnyError> {
     let outcome = outcome_number(answer.outcome);
@@ -82,15 +84,55 @@ fn print_answer<W: Write>(
         " {:>7} {:>7}  {first:<14}",
         answer.buttons, answer.waiting
     )?;
-    print_places(out, places)?;
+    print_column(out, column)?;
     Ok(())
 }
 
-// The places of a telegram's order: its first byte and the byte after it.
-fn print_places<W: Write>(out: &mut W, places: Option<(usize, usize)>) -> io::Result<()> {
-    match places {
-        Some((first, after)) => write!(out, " {first:>4} to {after:<4}"),
-        None => write!(out, "             "),
+// What stands behind the requests: the places of a telegram's order, its first byte and the byte after it,
+// or what the two ends read in the blocks of a cycle.
+#[derive(Clone, Copy)]
+enum Column {
+    Blank,
+    Places(usize, usize),
+    Speeds(Option<u16>, Option<u16>),
+}
+
+fn print_speed<W: Write>(out: &mut W, speed: Option<u16>) -> io::Result<()> {
+    match speed {
+        Some(kmh) => write!(out, "{kmh:>4}"),
+        None => write!(out, "   ?"),
+    }
+}
+
+fn print_column<W: Write>(out: &mut W, column: Column) -> io::Result<()> {
+    match column {
+        Column::Blank => write!(out, "             "),
+        Column::Places(first, after) => write!(out, " {first:>4} to {after:<4}"),
+        Column::Speeds(bus, pulse) => {
+            write!(out, " ")?;
+            print_speed(out, bus)?;
+            write!(out, "{}", if bus == pulse { " =  " } else { " <> " })?;
+            print_speed(out, pulse)
+        }
+    }
+}
+
+// What the two ends read, where both rows are cycles.
+fn speeds_of(row: &Row<'_>, other: &Row<'_>) -> Option<(Option<u16>, Option<u16>)> {
+    match (*row, *other) {
+        (Row::Call(_, Call::Cycle(bus), _, _), Row::Call(_, Call::Cycle(pulse), _, _)) => Some((
+            BusEnd::read(bus),
+            PulseEnd::read(pulse),
+        )),
+        _ => None,
+    }
+}
+
+fn column_of(places: Option<(usize, usize)>, speeds: Option<(Option<u16>, Option<u16>)>) -> Column {
+    match (places, speeds) {
+        (Some((first, after)), _) => Column::Places(first, after),
+        (None, Some((bus, pulse))) => Column::Speeds(bus, pulse),
+        (None, None) => Column::Blank,
     }
 }
 
@@ -99,12 +141,21 @@ fn print_row<W: Write>(
     heap: Global,
     cab: &str,
     row: &Row<'_>,
+    speeds: Option<(Option<u16>, Option<u16>)>,
 ) -> Result<(), AnyError> {
     match *row {
         Row::Call(line, call, places, answer) => {
             let call = CallWords(call);
             let call = format!(heap, "{call}")?;
-            print_answer(out, heap, line, cab, call.as_str(), places, &answer)?
+            print_answer(
+                out,
+                heap,
+                line,
+                cab,
+                call.as_str(),
+                column_of(places, speeds),
+                &answer,
+            )?
         }
         Row::Draft(line, number) => write!(out, "{line:>6} {cab:<5} draft          {number:>3}")?,
         Row::Fault(line, fault, first) => {
@@ -146,8 +197,9 @@ fn print_pair<W: Write>(
     reordered: bool,
     words: Option<&[u8]>,
 ) -> Result<(), AnyError> {
+    let speeds = speeds_of(row, other);
     if same_row(row, other) {
-        print_row(out, heap, "", row)?;
+        print_row(out, heap, "", row, speeds)?;
         if is_call(row) {
             print_words(out, words)?;
         }
@@ -159,10 +211,10 @@ fn print_pair<W: Write>(
     } else {
         "  < differ"
     };
-    print_row(out, heap, "bus", row)?;
+    print_row(out, heap, "bus", row, speeds)?;
     print_words(out, words)?;
     writeln!(out, "{mark}")?;
-    print_row(out, heap, "pulse", other)?;
+    print_row(out, heap, "pulse", other, speeds)?;
     writeln!(out, "{mark}")?;
     Ok(())
 }
@@ -199,9 +251,9 @@ pub fn print_table<W: Write>(
     let mut cycle = 0u32;
     writeln!(
         out,
-        "  line cab   call           out  mode level brake buttons waiting  first          bytes          message"
+        "  line cab   call           out  mode level brake buttons waiting  first          bytes or km/h  message"
     )?;
-    print_answer(out, heap, 0, "", "on", None, &bus.on)?;
+    print_answer(out, heap, 0, "", "on", Column::Blank, &bus.on)?;
     writeln!(out)?;
     for i in 0..bus.plan.rows.len().max(pulse.plan.rows.len()) {
         let row = row_at(bus.plan, bus.answers, i, call);
