@@ -18,9 +18,9 @@ pub trait Ordered {
 
 // The place of the first record. The best so far gives way only to a later record that is before it.
 pub fn first_of<T: Ordered>(run: &[T]) -> Option<usize>
-    ensures value { result ≡ chosen before run.now }
-    ensures none_before { NoneBefore before run.now result }
-    ensures leads { Apart same run.now → Leads before run.now result }
+    ensures value { result ≡ chosen T.before run.now }
+    ensures none_before { NoneBefore T.before run.now result }
+    ensures leads { Apart T.same run.now → Leads T.before run.now result }
 {
     if run.is_empty() {
         return None;

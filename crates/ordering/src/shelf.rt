@@ -84,9 +84,9 @@ impl<'a, T: Copy> Shelf<'a, T> {
     pub fn first(&self) -> Option<usize>
     where
         T: Ordered,
-        ensures value { result ≡ chosen before (items self.now) }
-        ensures none_before { NoneBefore before (items self.now) result }
-        ensures leads { Apart same (items self.now) → Leads before (items self.now) result }
+        ensures value { result ≡ chosen T.before (items self.now) }
+        ensures none_before { NoneBefore T.before (items self.now) result }
+        ensures leads { Apart T.same (items self.now) → Leads T.before (items self.now) result }
     {
         first_of(self.live())
     }

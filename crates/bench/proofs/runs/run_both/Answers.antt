@@ -8,13 +8,13 @@ returns g c =
     let r = g.E.TrainEnd.reading in
     let v = g.E.TrainEnd.speed_of c.args.one in
     let es = map said c.args.calls.now in
-    let a = c.run-into.ensures in
-    let one = defined_run r v es c.switch-on-one.ensures a.state a.answers in
+    let a = c.run_into.ensures in
+    let one = defined_run r v es c.switch_on-one.ensures a.state a.answers in
     let r' = g.F.TrainEnd.reading in
     let v' = g.F.TrainEnd.speed_of c.args.other in
     let fs = map said c.args.others.now in
-    let b = c.run-into-2.ensures in
-    let other = defined_run r' v' fs c.switch-on-other.ensures b.state b.answers in
+    let b = c.run_into-2.ensures in
+    let other = defined_run r' v' fs c.switch_on-other.ensures b.state b.answers in
     record {
       fits = search rules;
       runs = (one, other);

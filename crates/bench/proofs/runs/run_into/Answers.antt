@@ -11,10 +11,10 @@ loop-i-preserved g c =
     let calls = c.args.calls.now in
     let i = c.loop-i.i in
     let t = c.loop-i-test.true in
-    let a = c.make-call.ensures in
+    let a = c.make_call.ensures in
     let within : i < length c.loop-i.answers = omega arith in (
       last_more said (next reads) (reply reads) calls i _ _ _ _ t a.state c.loop-i.invariant.0,
-      out_more said (next reads) (reply reads) calls i _ _ _ _ _ _ _ t a.state a.answer (take_more_set c.loop-i.answers i c.make-call.result within) c.loop-i.invariant.1,
+      out_more said (next reads) (reply reads) calls i _ _ _ _ _ _ _ t a.state a.answer (take_more_set c.loop-i.answers i c.make_call.result within) c.loop-i.invariant.1,
     )
 
 pub returns : goal.returns

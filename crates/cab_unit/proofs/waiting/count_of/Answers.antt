@@ -2,12 +2,12 @@ use Rattle.std.proofs.Common.{arith}
 use Rattle.cab_unit.specs.Places.{picks}
 use Rattle.cab_unit.proofs.Scans.{tally_hit, tally_miss, tally-end}
 use Rattle.cab_unit.proofs.waiting.count_of.Goals as goal
-use Rattle.cab_unit.proofs.waiting.count_of.Goals.{then-is-one, else-is-one}
+use Rattle.cab_unit.proofs.waiting.count_of.Goals.{then-is_one, else-is_one}
 
 pub loop-x-preserved : goal.loop-x-preserved
-loop-x-preserved c = elim c.if-is-one.branch [
-  | then-is-one w ↦ let s = tally_hit (picks c.args.which) _ _ _ c.loop-x-test.true w.if-is-one.ensures in omega (arith, s, w.n-is)
-  | else-is-one w ↦ let s = tally_miss (picks c.args.which) _ _ _ c.loop-x-test.true w.if-is-one.ensures in omega (arith, s, w.n-is)
+loop-x-preserved c = elim c.if-is_one.branch [
+  | then-is_one w ↦ let s = tally_hit (picks c.args.which) _ _ _ c.loop-x-test.true w.if-is_one.ensures in omega (arith, s, w.n-is)
+  | else-is_one w ↦ let s = tally_miss (picks c.args.which) _ _ _ c.loop-x-test.true w.if-is_one.ensures in omega (arith, s, w.n-is)
 ]
 
 pub returns : goal.returns

@@ -10,23 +10,23 @@ returns-in-Err c =
     record {
       value =
           list_bad (vec_items c.loop-rest.listed) c.loop-rest.number c.loop-rest.rest.now c.args.text.now c.loop-rest.invariant.0
-          (vec_items c.note-line.new.listed) c.first-line.result.now c.in-Err.fault l c.first-line.ensures c.loop-rest.invariant.2 c.in-Err.ensures;
+          (vec_items c.note_line.new.listed) c.first_line.result.now c.in-Err.fault l c.first_line.ensures c.loop-rest.invariant.2 c.in-Err.ensures;
       names = every_mode_is_named;
     }
 
 pub loop-rest-smaller : goal.loop-rest-smaller
 loop-rest-smaller c =
     let l : 0 < length c.loop-rest.rest.now = search rules in
-    omega (arith, after_line_shorter c.loop-rest.rest.now l, ap length c.after-line-rest.ensures)
+    omega (arith, after_line_shorter c.loop-rest.rest.now l, ap length c.after_line-rest.ensures)
 
 pub loop-rest-preserved : goal.loop-rest-preserved
 loop-rest-preserved c =
     let l : 0 < length c.loop-rest.rest.now = search rules in (
       list_more (vec_items c.loop-rest.listed) c.loop-rest.number c.loop-rest.rest.now c.args.text.now c.loop-rest.invariant.0
-          (vec_items c.note-line.new.listed) c.first-line.result.now c.after-line-rest.result.now tt l c.first-line.ensures c.after-line-rest.ensures c.in-default.ensures,
-      omega (arith, after_line_shorter c.loop-rest.rest.now l, ap length c.after-line-rest.ensures, c.loop-rest.invariant.1),
-      λ more. c.loop-rest.invariant.2 (want_more c.loop-rest.rest.now c.loop-rest.number (vec_items c.loop-rest.listed) (vec_items c.note-line.new.listed)
-          c.first-line.result.now c.after-line-rest.result.now tt l c.first-line.ensures c.after-line-rest.ensures c.in-default.ensures more),
+          (vec_items c.note_line.new.listed) c.first_line.result.now c.after_line-rest.result.now tt l c.first_line.ensures c.after_line-rest.ensures c.in_default.ensures,
+      omega (arith, after_line_shorter c.loop-rest.rest.now l, ap length c.after_line-rest.ensures, c.loop-rest.invariant.1),
+      λ more. c.loop-rest.invariant.2 (want_more c.loop-rest.rest.now c.loop-rest.number (vec_items c.loop-rest.listed) (vec_items c.note_line.new.listed)
+          c.first_line.result.now c.after_line-rest.result.now tt l c.first_line.ensures c.after_line-rest.ensures c.in_default.ensures more),
     )
 
 pub returns : goal.returns

@@ -5,6 +5,6 @@ use Rattle.compare.proofs.compare.compare_lists.Goals as goal
 
 pub returns : goal.returns
 returns c =
-    let k = compared_by said c.args.calls.now c.args.others.now c.args.answers.now c.args.other-answers.now c.min-n.result c.same-lengths.result _ _
-    (omega arith) c.same-lengths.ensures c.in-ok-alike.ensures in
+    let k = compared_by said c.args.calls.now c.args.others.now c.args.answers.now c.args.other_answers.now c.min-n.result c.same_lengths.result _ _
+    (omega arith) c.same_lengths.ensures c.in_ok-alike.ensures in
     record { value = k; law = compared_applies k }

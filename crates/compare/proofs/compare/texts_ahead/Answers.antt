@@ -5,8 +5,8 @@ use Rattle.compare.specs.Walked.{Texts}
 use Rattle.compare.proofs.Walking.{next-at, none_both, texts-more}
 use Rattle.compare.proofs.compare.texts_ahead.Goals as goal
 
-pub returns-then-not-both-texts : goal.returns-then-not-both-texts
-returns-then-not-both-texts c =
+pub returns-then-not-both_texts : goal.returns-then-not-both_texts
+returns-then-not-both_texts c =
     let ks = c.args.calls.now in
     let ls = c.args.others.now in
     let i = c.loop-i.i in
@@ -15,7 +15,7 @@ returns-then-not-both-texts c =
     record {
       within = (omega arith, omega arith);
       texts = c.loop-i.invariant;
-      most = ap₂ ◌&&◌ (next-at said ks i _ h) (next-at said ls i _ k) ∙ sym c.both-texts.ensures ∙ c.if-not-both-texts.true;
+      most = ap₂ ◌&&◌ (next-at said ks i _ h) (next-at said ls i _ k) ∙ sym c.both_texts.ensures ∙ c.if-not-both_texts.true;
     }
 
 pub loop-i-preserved : goal.loop-i-preserved
@@ -25,7 +25,7 @@ loop-i-preserved c =
     let i = c.loop-i.i in
     let h : i < length ks = omega arith in
     let k : i < length ls = omega arith in
-    let both = and_parts _ _ (sym c.both-texts.ensures ∙ c.if-not-both-texts.false) in
+    let both = and_parts _ _ (sym c.both_texts.ensures ∙ c.if-not-both_texts.false) in
     (texts-more said ks i _ h c.loop-i.invariant.0 both.0, texts-more said ls i _ k c.loop-i.invariant.1 both.1)
 
 pub returns : goal.returns

@@ -12,7 +12,7 @@ invariant-loop-i g l =
     × (l.unequal
     + unequal_speeds
     (told e.reading (e.speed_of l.one) (map said (drop l.i l.calls)) (drop l.i l.answers))
-    (told f.reading (f.speed_of l.other) (map said (drop l.i l.others)) (drop l.i l.other-answers))
+    (told f.reading (f.speed_of l.other) (map said (drop l.i l.others)) (drop l.i l.other_answers))
     ≡ unequal_speeds
     (told e.reading (e.speed_of l.initial.one) (map said l.calls) l.answers)
-    (told f.reading (f.speed_of l.initial.other) (map said l.others) l.other-answers))
+    (told f.reading (f.speed_of l.initial.other) (map said l.others) l.other_answers))

@@ -10,15 +10,15 @@ none_is : {X : Type 0} (o : Option X) → is_some o ≡ false → o ≡ None
 none_is None h = refl
 none_is (Some x) h = absurd (true≢false h)
 
-pub returns-then-is-some : goal.returns-then-is-some
-returns-then-is-some c = (
+pub returns-then-is_some : goal.returns-then-is_some
+returns-then-is_some c = (
   λ h. absurd (false≢true h),
-  λ a. absurd (true≢false (c.if-is-some.ensures ∙ ap is_some (All-get_or (λ (x : Answer). x.outcome ≡ None) c.args.answers.now c.loop-answer.answer-index _ c.loop-answer-test.true a))),
+  λ a. absurd (true≢false (c.if-is_some.ensures ∙ ap is_some (All-get_or (λ (x : Answer). x.outcome ≡ None) c.args.answers.now c.loop-answer.answer-index _ c.loop-answer-test.true a))),
 )
 
 pub loop-answer-preserved : goal.loop-answer-preserved
 loop-answer-preserved c =
-    All-more (λ (x : Answer). x.outcome ≡ None) c.args.answers.now c.loop-answer.answer-index _ c.loop-answer-test.true c.loop-answer.invariant (none_is _ (sym c.if-is-some.ensures))
+    All-more (λ (x : Answer). x.outcome ≡ None) c.args.answers.now c.loop-answer.answer-index _ c.loop-answer-test.true c.loop-answer.invariant (none_is _ (sym c.if-is_some.ensures))
 
 pub returns : goal.returns
 returns c = (λ _. subst Accepted (take_all c.loop-answer.answer-index c.args.answers.now c.loop-answer-test.false) c.loop-answer.invariant, λ _. refl)

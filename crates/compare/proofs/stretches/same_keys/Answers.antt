@@ -9,19 +9,19 @@ pub returns-then-keys-others : goal.returns-then-keys-others
 returns-then-keys-others c =
     (λ h. absurd (false≢true h), λ e. let n = same_length keyed c.args.keys.now c.args.others.now e in absurd (omega arith))
 
-pub returns-then-not-same-key : goal.returns-then-not-same-key
-returns-then-not-same-key c =
+pub returns-then-not-same_key : goal.returns-then-not-same_key
+returns-then-not-same_key c =
     let h : c.loop-i.i < length c.args.keys.now = omega arith in
     let k : c.loop-i.i < length c.args.others.now = omega arith in (
       λ h. absurd (false≢true h),
-      λ e. absurd (not_from_Decides _ c.same-key.ensures c.if-not-same-key.true (same_place keyed c.args.keys.now c.args.others.now c.loop-i.i _ _ h k e)),
+      λ e. absurd (not_from_Decides _ c.same_key.ensures c.if-not-same_key.true (same_place keyed c.args.keys.now c.args.others.now c.loop-i.i _ _ h k e)),
     )
 
 pub loop-i-preserved : goal.loop-i-preserved
 loop-i-preserved c =
     let h : c.loop-i.i < length c.args.keys.now = omega arith in
     let k : c.loop-i.i < length c.args.others.now = omega arith in
-    same_more keyed c.args.keys.now c.args.others.now c.loop-i.i _ _ h k c.loop-i.invariant (c.same-key.ensures.0 c.if-not-same-key.false)
+    same_more keyed c.args.keys.now c.args.others.now c.loop-i.i _ _ h k c.loop-i.invariant (c.same_key.ensures.0 c.if-not-same_key.false)
 
 pub returns : goal.returns
 returns c =

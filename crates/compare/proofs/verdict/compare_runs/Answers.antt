@@ -4,14 +4,14 @@ use Rattle.compare.proofs.verdict.compare_runs.Goals as goal
 
 pub returns : goal.returns
 returns g c =
-    let l = c.in-ok-likeness.ensures in
-    let n = c.count-answers-counts.ensures in
+    let l = c.in_ok-likeness.ensures in
+    let n = c.count_answers-counts.ensures in
     let e = c.deref.ensures.value in
     record {
       likeness = l.value;
-      speeds = c.unequal-speeds-unequal.ensures;
-      counts = subst (λ (ms : List Bool). Counted ms c.args.answers.now c.args.other-answers.now c.count-answers-counts.result.compared c.count-answers-counts.result.differing) e n.value;
+      speeds = c.unequal_speeds-unequal.ensures;
+      counts = subst (λ (ms : List Bool). Counted ms c.args.answers.now c.args.other_answers.now c.count_answers-counts.result.compared c.count_answers-counts.result.differing) e n.value;
       law = λ a z.
-          let j = l.law a g.E.TrainEnd.reading g.F.TrainEnd.reading (g.E.TrainEnd.speed_of c.args.one.now) (g.F.TrainEnd.speed_of c.args.other.now) (sym c.unequal-speeds-unequal.ensures ∙ z) in
-          (j.0, λ k. n.agreeing (subst (λ (ms : List Bool). AgreeOutside ms c.args.answers.now c.args.other-answers.now) (sym e) (j.1 k)));
+          let j = l.law a g.E.TrainEnd.reading g.F.TrainEnd.reading (g.E.TrainEnd.speed_of c.args.one.now) (g.F.TrainEnd.speed_of c.args.other.now) (sym c.unequal_speeds-unequal.ensures ∙ z) in
+          (j.0, λ k. n.agreeing (subst (λ (ms : List Bool). AgreeOutside ms c.args.answers.now c.args.other_answers.now) (sym e) (j.1 k)));
     }

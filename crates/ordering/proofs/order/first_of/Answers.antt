@@ -3,7 +3,7 @@ use Rattle.ordering.specs.Order.{NoneBefore}
 use Rattle.ordering.proofs.Choosing.{Strict, BestOf, best_of_one, best_keeps, best_gives_way, best_chosen, leads}
 use Rattle.ordering.proofs.order.first_of.Given as given
 use Rattle.ordering.proofs.order.first_of.Goals as goal
-use Rattle.ordering.proofs.order.first_of.Goals.{then-is-before, else-is-before}
+use Rattle.ordering.proofs.order.first_of.Goals.{then-is_before, else-is_before}
 
 strict : (g : given.Over) → Strict g.T.Ordered.before g.T.Ordered.same
 strict g = record { one = g.met.T.Ordered.one; carries = g.met.T.Ordered.carries }
@@ -13,9 +13,9 @@ loop-i-init g c = best_of_one (strict g) c.args.run.now (search rules)
 
 pub loop-i-preserved : goal.loop-i-preserved
 loop-i-preserved g c =
-    elim c.if-is-before.branch [
-      | then-is-before w ↦ rw w.best-is (best_gives_way (strict g) _ _ _ _ _ c.loop-i.invariant c.loop-i-test.true c.index-run-i.is c.index-run-best.is (search rules))
-      | else-is-before w ↦ rw w.best-is (best_keeps (strict g) _ _ _ _ _ c.loop-i.invariant c.loop-i-test.true c.index-run-i.is c.index-run-best.is (search rules))
+    elim c.if-is_before.branch [
+      | then-is_before w ↦ rw w.best-is (best_gives_way (strict g) _ _ _ _ _ c.loop-i.invariant c.loop-i-test.true c.index-run-i.is c.index-run-best.is (search rules))
+      | else-is_before w ↦ rw w.best-is (best_keeps (strict g) _ _ _ _ _ c.loop-i.invariant c.loop-i-test.true c.index-run-i.is c.index-run-best.is (search rules))
     ]
 
 pub returns : goal.returns

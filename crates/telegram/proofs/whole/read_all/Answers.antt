@@ -18,7 +18,7 @@ loop-order-preserved c =
     let t = c.args.telegram.now in
     let p = c.loop-order.reader.place in
     let here = answered t _ p _ c.loop-order.invariant.0 n.answer in
-    let items = c.in-ok-push.ensures.items in (
+    let items = c.in_ok-push-in-Order.ensures.items in (
       ap (λ (x : Bor (List ℕ)). x.now) n.telegram ∙ c.loop-order.invariant.0,
       λ os e r.
           subst (λ (x : List PlacedValue). Reads t 0 x e) (sym (map-more-then placed_of (vec_items c.loop-order.orders) (vec_items c.push.new.self) _ os items))

@@ -6,12 +6,12 @@ use Rattle.window.specs.Window.{lines, rows, add_answer}
 use Rattle.window.proofs.Numbers.{removed_front}
 use Rattle.window.proofs.Window.add.Goals as goal
 
-pub returns-then-is-some : goal.returns-then-is-some
-returns-then-is-some c =
+pub returns-then-is_some : goal.returns-then-is_some
+returns-then-is_some c =
     let w = c.args.self.now in
     let line = c.args.line in
-    let found = simp c.lines.ensures at c.place-of.ensures.found in
-    let there : has line.number (lines w) ≡ true = sym found ∙ sym c.is-some.ensures ∙ c.if-is-some.true in
+    let found = simp c.lines.ensures at c.place_of.ensures.found in
+    let there : has line.number (lines w) ≡ true = sym found ∙ sym c.is_some.ensures ∙ c.if-is_some.true in
     let answer : Err NumberThere ≡ add_answer (rows w) (lines w) line = sym (cond-true _ _ _ there) in
     record {
       room = refl;
@@ -27,12 +27,12 @@ returns-in-Ok c =
     let w = c.args.self.now in
     let line = c.args.line in
     let put = c.in-Ok.ensures.cases in
-    let found = simp c.lines.ensures at c.place-of.ensures.found in
-    let new : has line.number (lines w) ≡ false = sym found ∙ sym c.is-some.ensures ∙ c.if-is-some.false in
+    let found = simp c.lines.ensures at c.place_of.ensures.found in
+    let new : has line.number (lines w) ≡ false = sym found ∙ sym c.is_some.ensures ∙ c.if-is_some.false in
     let answer : Ok tt ≡ add_answer (rows w) (lines w) line = sym (cond-false _ _ _ new ∙ cond-true _ _ _ (lt-ltb (length (lines w)) (rows w) put.0)) in
     record {
-      room = c.put-front.ensures.room;
-      lent = c.put-front.ensures.lent;
+      room = c.put_front.ensures.room;
+      lent = c.put_front.ensures.lent;
       answer = answer;
       after = rw put.1 (ap (λ r. cond (is_ok r) (line ∷ lines w) (lines w)) answer);
       refused = λ bad. absurd (both_ways true bad refl);

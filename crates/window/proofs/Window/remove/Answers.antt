@@ -5,10 +5,10 @@ use Rattle.window.specs.Window.{lines}
 use Rattle.window.proofs.Numbers.{has-at, removed-none, removed-gone, taken_removed, differ_taken}
 use Rattle.window.proofs.Window.remove.Goals as goal
 
-pub returns-in-default : goal.returns-in-default
-returns-in-default c =
+pub returns-in_default : goal.returns-in_default
+returns-in_default c =
     let w = c.args.self.now in
-    let none : has c.args.number (lines w) ≡ false = simp c.lines.ensures at c.in-default.ensures.place in
+    let none : has c.args.number (lines w) ≡ false = simp c.lines.ensures at c.in_default.ensures.place in
     record {
       room = refl;
       lent = refl;
@@ -22,7 +22,7 @@ pub invariant-of-self : goal.invariant-of-self
 invariant-of-self c =
     let w = c.args.self.now in
     let found = simp c.lines.ensures at c.in-Some.ensures.place in
-    (differ_taken w.shelf c.take-out.new.self c.args.number c.in-Some.i c.take-out.result c.take-out.ensures.cases w.distinct found.0 found.1, tt)
+    (differ_taken w.shelf c.take_out.new.self c.args.number c.in-Some.i c.take_out.result c.take_out.ensures.cases w.distinct found.0 found.1, tt)
 
 pub returns-in-Ok : goal.returns-in-Ok
 returns-in-Ok c =
@@ -31,10 +31,10 @@ returns-in-Ok c =
     let found = simp c.lines.ensures at c.in-Some.ensures.place in
     let line = c.in-Ok.field-0 in
     let there : has number (lines w) ≡ true = has-at number (lines w) c.in-Some.i line found.0 (found.1 line) in
-    let after = taken_removed w.shelf c.take-out.new.self number c.in-Some.i c.take-out.result c.take-out.ensures.cases w.distinct found.0 found.1 in
+    let after = taken_removed w.shelf c.take_out.new.self number c.in-Some.i c.take_out.result c.take_out.ensures.cases w.distinct found.0 found.1 in
     record {
-      room = c.take-out.ensures.room;
-      lent = c.take-out.ensures.lent;
+      room = c.take_out.ensures.room;
+      lent = c.take_out.ensures.lent;
       answer = sym (cond-true _ _ _ there);
       after = after;
       refused = λ bad. absurd (both_ways true bad refl);

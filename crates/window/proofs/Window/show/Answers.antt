@@ -7,4 +7,4 @@ pub returns-then-position-live : goal.returns-then-position-live
 returns-then-position-live c = shown_past (lines c.args.self.now) c.args.position c.args.store.now (simp c.lines-live.ensures at c.if-position-live.true)
 
 pub returns : goal.returns
-returns c = c.part-of.ensures ∙ simp c.lines-live.ensures (shown-at (lines c.args.self.now) c.args.position _ c.args.store.now (simp c.lines-live.ensures at c.if-position-live.false))
+returns c = c.part_of.ensures ∙ simp c.lines-live.ensures (shown-at (lines c.args.self.now) c.args.position _ c.args.store.now (simp c.lines-live.ensures at c.if-position-live.false))

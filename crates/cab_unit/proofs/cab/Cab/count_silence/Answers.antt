@@ -6,6 +6,6 @@ pub returns-then-self-lt401 : goal.returns-then-self-lt401
 unfolding counted
 returns-then-self-lt401 g c = search rules
 
-pub returns-else-is-listening : goal.returns-else-is-listening
+pub returns-else-is_listening : goal.returns-else-is_listening
 unfolding counted
-returns-else-is-listening g c = search rules
+returns-else-is_listening g c = search rules

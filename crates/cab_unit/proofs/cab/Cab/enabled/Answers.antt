@@ -30,10 +30,10 @@ pub returns-in-6-to-8 : goal.returns-in-6-to-8
 unfolding enabled
 returns-in-6-to-8 g c = search rules
 
-pub returns-in-default : goal.returns-in-default
+pub returns-in_default : goal.returns-in_default
 unfolding enabled
-returns-in-default g c = search rules
+returns-in_default g c = search rules
 
-pub returns-in-default·2 : goal.returns-in-default·2
+pub returns-in_default-2 : goal.returns-in_default-2
 unfolding enabled
-returns-in-default·2 g c = search rules
+returns-in_default-2 g c = search rules

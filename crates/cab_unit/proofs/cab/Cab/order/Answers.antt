@@ -19,7 +19,7 @@ returns-in-None g c =
     let e : Event = order (value_of c.args.order) in
     let s = view g.E.TrainEnd.speed_of g.E.TrainEnd.line_of c.args.self.now in
     let h = c.in-None.ensures in
-    let done = c.order-change-done.ensures in
+    let done = c.order_change-done.ensures in
     record {
       state = accepted-state reads e s _ _ h done.state c.finish.ensures.state;
       answer = accepted-answer reads e s _ _ _ h done.state done.done c.finish.ensures.answer;

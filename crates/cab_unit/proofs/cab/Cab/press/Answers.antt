@@ -18,7 +18,7 @@ returns-in-None g c =
     let e : Event = press c.args.button in
     let s = view g.E.TrainEnd.speed_of g.E.TrainEnd.line_of c.args.self.now in
     let h = c.in-None.ensures in
-    let done = c.press-change-done.ensures in
+    let done = c.press_change-done.ensures in
     record {
       state = accepted-state reads e s _ _ h done.state c.finish.ensures.state;
       answer = accepted-answer reads e s _ _ _ h done.state done.done c.finish.ensures.answer;

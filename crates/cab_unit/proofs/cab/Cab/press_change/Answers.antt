@@ -31,6 +31,6 @@ returns-in-6-to-8 g c = search rules
 pub start-requires : goal.start-requires
 start-requires g c = start_unasked c.args.button (view g.E.TrainEnd.speed_of g.E.TrainEnd.line_of c.args.self.now) (omega arith) c.requires.enabled
 
-pub returns-in-default : goal.returns-in-default
+pub returns-in_default : goal.returns-in_default
 unfolding press_change
-returns-in-default g c = search rules
+returns-in_default g c = search rules

@@ -7,7 +7,7 @@ use Rattle.cab_unit.proofs.waiting.Waiting.withdraw.Goals as goal
 pub invariant-of-self : goal.invariant-of-self
 invariant-of-self c =
     let w = c.args.self.now in
-    let k = c.keep-others-stay in
+    let k = c.keep_others-stay in
     let out = withdrawing c.args.which w.count k.result w.items k.new.items _ (omega arith) k.auto.items k.ensures.within k.ensures.kept in
     let new = sym out.0 in
     let p = leaves c.args.which in
@@ -16,6 +16,6 @@ invariant-of-self c =
 pub returns : goal.returns
 returns c =
     let w = c.args.self.now in
-    let k = c.keep-others-stay in
+    let k = c.keep_others-stay in
     let out = withdrawing c.args.which w.count k.result w.items k.new.items _ (omega arith) k.auto.items k.ensures.within k.ensures.kept in
     record { rest = out.0; number = out.1; most = omega arith }

@@ -9,13 +9,13 @@ returns-then-position-n g c = search (rules, length-take)
 pub returns : goal.returns
 returns g c =
     let m = c.args.self.now in
-    let moved = c.copy-within.ensures.by_index in
+    let moved = c.copy_within.ensures.by_index in
     record {
       room = search (rules, places);
       lent = search rules;
       cases = (
         search (rules, length-take),
         grind (arith, places),
-        gap_closed m.run.now c.copy-within.new.self m.count c.used-n.result c.used-n.ensures c.copy-within.ensures.len c.args.position (search rules) moved.0 moved.1,
+        gap_closed m.run.now c.copy_within.new.self m.count c.used-n.result c.used-n.ensures c.copy_within.ensures.len c.args.position (search rules) moved.0 moved.1,
       );
     }

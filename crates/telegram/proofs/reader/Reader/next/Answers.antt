@@ -8,8 +8,8 @@ returns c =
     let t = c.args.self.now.telegram.now in
     let p = c.args.self.now.place in
     record {
-      answer = c.read-at-read.ensures;
+      answer = c.read_at-read.ensures;
       place = search rules;
       telegram = search rules;
-      law = subst (ReadWhereItStands t p) (sym c.read-at-read.ensures) (read_where_it_stands t p);
+      law = subst (ReadWhereItStands t p) (sym c.read_at-read.ensures) (read_where_it_stands t p);
     }
