@@ -21,7 +21,7 @@ pub struct Ran<E, F> {
 
 // What a unit answers to numbers that no draft takes. In System Failure it says that before all else.
 fn refuse_draft<E: TrainEnd>(unit: &Unit<E>, refusal: Refusal) -> Answer
-    ensures { result ≡ answering (Some (if failed (view speed_of line_of unit.now) then InSystemFailure else refusal)) None None 0 (view speed_of line_of unit.now) }
+    ensures { result ≡ answering (Some (if failed (view E.speed_of E.line_of unit.now) then InSystemFailure else refusal)) None None 0 (view E.speed_of E.line_of unit.now) }
 {
     let mut answer = unit.answer();
     answer.outcome = Some(if answer.mode.code() == Mode::SystemFailure.code() {
@@ -34,8 +34,8 @@ fn refuse_draft<E: TrainEnd>(unit: &Unit<E>, refusal: Refusal) -> Answer
 
 // A draft of the numbers, Yes, and the taking.
 fn take_record<E: TrainEnd>(unit: &mut Unit<E>, train: TrainRecord) -> Answer
-    ensures state { view speed_of line_of unit.new ≡ next reading (taken train) (view speed_of line_of unit.old) }
-    ensures answer { result ≡ reply reading (taken train) (view speed_of line_of unit.old) }
+    ensures state { view E.speed_of E.line_of unit.new ≡ next E.reading (taken train) (view E.speed_of E.line_of unit.old) }
+    ensures answer { result ≡ reply E.reading (taken train) (view E.speed_of E.line_of unit.old) }
 {
     let draft = Draft::new(
         train.driver,
@@ -57,8 +57,8 @@ fn take_record<E: TrainEnd>(unit: &mut Unit<E>, train: TrainRecord) -> Answer
 
 // Makes one call of the unit.
 fn make_call<E: TrainEnd>(unit: &mut Unit<E>, call: &Call<'_>) -> Answer
-    ensures state { view speed_of line_of unit.new ≡ next reading (said call.now) (view speed_of line_of unit.old) }
-    ensures answer { result ≡ reply reading (said call.now) (view speed_of line_of unit.old) }
+    ensures state { view E.speed_of E.line_of unit.new ≡ next E.reading (said call.now) (view E.speed_of E.line_of unit.old) }
+    ensures answer { result ≡ reply E.reading (said call.now) (view E.speed_of E.line_of unit.old) }
 {
     match *call {
         Call::Cycle(block) => unit.cycle(block),
@@ -71,8 +71,8 @@ fn make_call<E: TrainEnd>(unit: &mut Unit<E>, call: &Call<'_>) -> Answer
 // Makes the calls in their order, and writes the answer to each at its place.
 fn run_into<E: TrainEnd>(unit: &mut Unit<E>, calls: &[Call<'_>], answers: &mut [Answer])
     requires { length answers.old ≡ length calls.now }
-    ensures state { view speed_of line_of unit.new ≡ after reading (map said calls.now) (view speed_of line_of unit.old) }
-    ensures answers { answers.new ≡ answers_of reading (map said calls.now) (view speed_of line_of unit.old) }
+    ensures state { view E.speed_of E.line_of unit.new ≡ after E.reading (map said calls.now) (view E.speed_of E.line_of unit.old) }
+    ensures answers { answers.new ≡ answers_of E.reading (map said calls.now) (view E.speed_of E.line_of unit.old) }
 {
     for i in 0..calls.len() {
         answers[i] = make_call(unit, &calls[i]);

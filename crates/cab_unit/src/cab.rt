@@ -76,7 +76,7 @@ fn bit(on: bool, value: u16) -> u16
 impl<E: TrainEnd> Cab<E> {
     // Whether the level can be set by a button, and a record be taken.
     pub fn settable(&self) -> bool
-        ensures { result ≡ is_settable (view speed_of line_of self.now) }
+        ensures { result ≡ is_settable (view E.speed_of E.line_of self.now) }
     {
         let stands = is_standing(self.end.speed());
         let unasked = self.waiting.number_of(Class::Mode) == 0;
@@ -85,7 +85,7 @@ impl<E: TrainEnd> Cab<E> {
 
     // Whether a button is enabled: 1 Acknowledge, 2 Start, 3 Shunting, 4 Exit shunting, 5 Override, 6 to 8 Level 0 to 2, 9 Close desk.
     pub fn enabled(&self, button: u8) -> bool
-        ensures { result ≡ enabled button (view speed_of line_of self.now) }
+        ensures { result ≡ enabled button (view E.speed_of E.line_of self.now) }
     {
         let desk = self.desk;
         let stands = is_standing(self.end.speed());
@@ -105,7 +105,7 @@ impl<E: TrainEnd> Cab<E> {
     }
 
     fn buttons(&self) -> u16
-        ensures { result ≡ buttons_of (view speed_of line_of self.now) }
+        ensures { result ≡ buttons_of (view E.speed_of E.line_of self.now) }
     {
         bit(self.enabled(1), 1)
             + bit(self.enabled(2), 2)
@@ -119,7 +119,7 @@ impl<E: TrainEnd> Cab<E> {
     }
 
     fn line_rule(&self) -> BrakeLine
-        ensures { result ≡ line_rule self.now.desk (any_overdue self.now.cycle (view speed_of line_of self.now).waiting) (waits class.Hold 0 (view speed_of line_of self.now).waiting) (view speed_of line_of self.now).speed }
+        ensures { result ≡ line_rule self.now.desk (any_overdue self.now.cycle (view E.speed_of E.line_of self.now).waiting) (waits class.Hold 0 (view E.speed_of E.line_of self.now).waiting) (view E.speed_of E.line_of self.now).speed }
     {
         if is_mode(self.desk.mode, Mode::Trip) | is_mode(self.desk.mode, Mode::SystemFailure) {
             return BrakeLine::Emergency;
@@ -135,7 +135,7 @@ impl<E: TrainEnd> Cab<E> {
 
     // The silence rule, then the line rule.
     pub fn settle(&mut self)
-        ensures { view speed_of line_of self.new ≡ settled (view speed_of line_of self.old) }
+        ensures { view E.speed_of E.line_of self.new ≡ settled (view E.speed_of E.line_of self.old) }
     {
         if !self.desk.is_listening() {
             self.desk.silence = 0;
@@ -145,7 +145,7 @@ impl<E: TrainEnd> Cab<E> {
     }
 
     pub fn answer(&self, outcome: Option<Refusal>, done: Done) -> Answer
-        ensures { result ≡ answering outcome done.raised done.ended done.withdrawn (view speed_of line_of self.now) }
+        ensures { result ≡ answering outcome done.raised done.ended done.withdrawn (view E.speed_of E.line_of self.now) }
     {
         Answer {
             outcome,
@@ -163,8 +163,8 @@ impl<E: TrainEnd> Cab<E> {
 
     // A change of mode withdraws what waits of class mode.
     pub fn enter(&mut self, mode: Mode) -> u8
-        ensures state { view speed_of line_of self.new ≡ entered mode (view speed_of line_of self.old) }
-        ensures number { result ≡ withdrawn_at mode (view speed_of line_of self.old) }
+        ensures state { view E.speed_of E.line_of self.new ≡ entered mode (view E.speed_of E.line_of self.old) }
+        ensures number { result ≡ withdrawn_at mode (view E.speed_of E.line_of self.old) }
         ensures most { result ≤ 16 }
     {
         let number = if is_mode(self.desk.mode, mode) {
@@ -177,10 +177,10 @@ impl<E: TrainEnd> Cab<E> {
     }
 
     pub fn raise(&mut self, class: Class, number: u8, timed: bool) -> Request
-        requires room { number_of class (view speed_of line_of self.old).waiting < limit class }
-        requires fresh { waits class number (view speed_of line_of self.old).waiting ≡ false }
-        ensures state { view speed_of line_of self.new ≡ raised_in class number timed (view speed_of line_of self.old) }
-        ensures raised { result ≡ request_in class number timed (view speed_of line_of self.old) }
+        requires room { number_of class (view E.speed_of E.line_of self.old).waiting < limit class }
+        requires fresh { waits class number (view E.speed_of E.line_of self.old).waiting ≡ false }
+        ensures state { view E.speed_of E.line_of self.new ≡ raised_in class number timed (view E.speed_of E.line_of self.old) }
+        ensures raised { result ≡ request_in class number timed (view E.speed_of E.line_of self.old) }
     {
         let request = Request {
             class,
@@ -194,9 +194,9 @@ impl<E: TrainEnd> Cab<E> {
 
     // Raises the only request of its class.
     pub fn raise_alone(&mut self, class: Class, number: u8, timed: bool) -> Request
-        requires { number_of class (view speed_of line_of self.old).waiting ≡ 0 }
-        ensures state { view speed_of line_of self.new ≡ raised_in class number timed (view speed_of line_of self.old) }
-        ensures raised { result ≡ request_in class number timed (view speed_of line_of self.old) }
+        requires { number_of class (view E.speed_of E.line_of self.old).waiting ≡ 0 }
+        ensures state { view E.speed_of E.line_of self.new ≡ raised_in class number timed (view E.speed_of E.line_of self.old) }
+        ensures raised { result ≡ request_in class number timed (view E.speed_of E.line_of self.old) }
     {
         self.raise(class, number, timed)
     }

@@ -17,24 +17,24 @@ use train_end::TrainEnd;
 // Each call: refused with nothing touched, or done and settled.
 impl<E: TrainEnd> Cab<E> {
     fn refuse(&self, refusal: Refusal) -> Answer
-        ensures { result ≡ answering (Some refusal) None None 0 (view speed_of line_of self.now) }
+        ensures { result ≡ answering (Some refusal) None None 0 (view E.speed_of E.line_of self.now) }
     {
         self.answer(Some(refusal), Done::withdrawing(0))
     }
 
     fn finish(&mut self, done: Done) -> Answer
-        ensures state { view speed_of line_of self.new ≡ settled (view speed_of line_of self.old) }
-        ensures answer { result ≡ answering None done.raised done.ended done.withdrawn (settled (view speed_of line_of self.old)) }
+        ensures state { view E.speed_of E.line_of self.new ≡ settled (view E.speed_of E.line_of self.old) }
+        ensures answer { result ≡ answering None done.raised done.ended done.withdrawn (settled (view E.speed_of E.line_of self.old)) }
     {
         self.settle();
         self.answer(None, done)
     }
 
     pub fn press(&mut self, button: u8) -> Answer
-        requires { ∥ Facts (view speed_of line_of self.old) ∥₁ }
-        ensures state { view speed_of line_of self.new ≡ next reading (events.Event.press button) (view speed_of line_of self.old) }
-        ensures answer { result ≡ reply reading (events.Event.press button) (view speed_of line_of self.old) }
-        ensures refused { is_some (refusal_of (events.Event.press button) (view speed_of line_of self.old)) ≡ true → self.new ≡ self.old }
+        requires { ∥ Facts (view E.speed_of E.line_of self.old) ∥₁ }
+        ensures state { view E.speed_of E.line_of self.new ≡ next E.reading (events.Event.press button) (view E.speed_of E.line_of self.old) }
+        ensures answer { result ≡ reply E.reading (events.Event.press button) (view E.speed_of E.line_of self.old) }
+        ensures refused { is_some (refusal_of (events.Event.press button) (view E.speed_of E.line_of self.old)) ≡ true → self.new ≡ self.old }
     {
         match self.press_refusal(button) {
             Some(refusal) => self.refuse(refusal),
@@ -46,10 +46,10 @@ impl<E: TrainEnd> Cab<E> {
     }
 
     pub fn order(&mut self, order: Order<'_>) -> Answer
-        requires { ∥ Facts (view speed_of line_of self.old) ∥₁ }
-        ensures state { view speed_of line_of self.new ≡ next reading (events.Event.order (value_of order.entry)) (view speed_of line_of self.old) }
-        ensures answer { result ≡ reply reading (events.Event.order (value_of order.entry)) (view speed_of line_of self.old) }
-        ensures refused { is_some (refusal_of (events.Event.order (value_of order.entry)) (view speed_of line_of self.old)) ≡ true → self.new ≡ self.old }
+        requires { ∥ Facts (view E.speed_of E.line_of self.old) ∥₁ }
+        ensures state { view E.speed_of E.line_of self.new ≡ next E.reading (events.Event.order (value_of order.entry)) (view E.speed_of E.line_of self.old) }
+        ensures answer { result ≡ reply E.reading (events.Event.order (value_of order.entry)) (view E.speed_of E.line_of self.old) }
+        ensures refused { is_some (refusal_of (events.Event.order (value_of order.entry)) (view E.speed_of E.line_of self.old)) ≡ true → self.new ≡ self.old }
     {
         match self.order_refusal(order) {
             Some(refusal) => self.refuse(refusal),
@@ -61,10 +61,10 @@ impl<E: TrainEnd> Cab<E> {
     }
 
     pub fn cycle(&mut self, block: &[u8]) -> Answer
-        requires { ∥ Facts (view speed_of line_of self.old) ∥₁ }
-        ensures state { view speed_of line_of self.new ≡ next reading (events.Event.cycle block.now) (view speed_of line_of self.old) }
-        ensures answer { result ≡ reply reading (events.Event.cycle block.now) (view speed_of line_of self.old) }
-        ensures refused { is_some (refusal_of (events.Event.cycle block.now) (view speed_of line_of self.old)) ≡ true → self.new ≡ self.old }
+        requires { ∥ Facts (view E.speed_of E.line_of self.old) ∥₁ }
+        ensures state { view E.speed_of E.line_of self.new ≡ next E.reading (events.Event.cycle block.now) (view E.speed_of E.line_of self.old) }
+        ensures answer { result ≡ reply E.reading (events.Event.cycle block.now) (view E.speed_of E.line_of self.old) }
+        ensures refused { is_some (refusal_of (events.Event.cycle block.now) (view E.speed_of E.line_of self.old)) ≡ true → self.new ≡ self.old }
     {
         if is_mode(self.desk.mode, Mode::SystemFailure) {
             return self.refuse(Refusal::InSystemFailure);
@@ -76,9 +76,9 @@ impl<E: TrainEnd> Cab<E> {
     // A record held before is replaced.
     pub fn take(&mut self, train: TrainRecord) -> Answer
         requires { is_some (record_refusal train) ≡ false }
-        ensures state { view speed_of line_of self.new ≡ next reading (events.Event.take train) (view speed_of line_of self.old) }
-        ensures answer { result ≡ reply reading (events.Event.take train) (view speed_of line_of self.old) }
-        ensures refused { is_some (refusal_of (events.Event.take train) (view speed_of line_of self.old)) ≡ true → self.new ≡ self.old }
+        ensures state { view E.speed_of E.line_of self.new ≡ next E.reading (events.Event.take train) (view E.speed_of E.line_of self.old) }
+        ensures answer { result ≡ reply E.reading (events.Event.take train) (view E.speed_of E.line_of self.old) }
+        ensures refused { is_some (refusal_of (events.Event.take train) (view E.speed_of E.line_of self.old)) ≡ true → self.new ≡ self.old }
     {
         if is_mode(self.desk.mode, Mode::SystemFailure) {
             return self.refuse(Refusal::InSystemFailure);

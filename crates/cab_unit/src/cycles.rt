@@ -16,7 +16,7 @@ use train_end::TrainEnd;
 
 impl<E: TrainEnd> Cab<E> {
     fn count_silence(&mut self)
-        ensures { view speed_of line_of self.new ≡ counted (view speed_of line_of self.old) }
+        ensures { view E.speed_of E.line_of self.new ≡ counted (view E.speed_of E.line_of self.old) }
     {
         if self.desk.is_listening() && self.desk.silence < 401 {
             self.desk.silence += 1;
@@ -26,10 +26,10 @@ impl<E: TrainEnd> Cab<E> {
     // After 401 silent cycles a standing train has no authority any more.
     // A moving train is held in Standby and Post Trip, and tripped in a supervised mode without authority.
     fn watch(&mut self) -> Done
-        requires untripped { is_mode self.old.desk.mode modes.Trip ≡ false → number_of class.Trip (view speed_of line_of self.old).waiting ≡ 0 }
-        requires unheld { waits class.Hold 0 (view speed_of line_of self.old).waiting ≡ false → number_of class.Hold (view speed_of line_of self.old).waiting ≡ 0 }
-        ensures state { view speed_of line_of self.new ≡ (watched (lapsed (view speed_of line_of self.old))).state }
-        ensures done { result ≡ done_of (watched (lapsed (view speed_of line_of self.old))) }
+        requires untripped { is_mode self.old.desk.mode modes.Trip ≡ false → number_of class.Trip (view E.speed_of E.line_of self.old).waiting ≡ 0 }
+        requires unheld { waits class.Hold 0 (view E.speed_of E.line_of self.old).waiting ≡ false → number_of class.Hold (view E.speed_of E.line_of self.old).waiting ≡ 0 }
+        ensures state { view E.speed_of E.line_of self.new ≡ (watched (lapsed (view E.speed_of E.line_of self.old))).state }
+        ensures done { result ≡ done_of (watched (lapsed (view E.speed_of E.line_of self.old))) }
     {
         match self.desk.mode {
             _ if self.desk.silence == 401 && is_standing(self.end.speed()) => {
@@ -57,10 +57,10 @@ impl<E: TrainEnd> Cab<E> {
 
     // A cycle before the last: the block's speed, silence, the end of authority, and what a moving train asks for.
     fn advance(&mut self, block: &[u8]) -> Done
-        requires facts { ∥ Facts (view speed_of line_of self.old) ∥₁ }
+        requires facts { ∥ Facts (view E.speed_of E.line_of self.old) ∥₁ }
         requires clock { self.old.cycle < 4294967295 }
-        ensures state { view speed_of line_of self.new ≡ (watched (lapsed (counted (given (reading block.now) (view speed_of line_of self.old))))).state }
-        ensures done { result ≡ done_of (watched (lapsed (counted (given (reading block.now) (view speed_of line_of self.old))))) }
+        ensures state { view E.speed_of E.line_of self.new ≡ (watched (lapsed (counted (given (E.reading block.now) (view E.speed_of E.line_of self.old))))).state }
+        ensures done { result ≡ done_of (watched (lapsed (counted (given (E.reading block.now) (view E.speed_of E.line_of self.old))))) }
     {
         self.cycle += 1;
         self.end.give_block(block);
@@ -70,8 +70,8 @@ impl<E: TrainEnd> Cab<E> {
 
     // System Failure: all requests are withdrawn, authority and any pending start end.
     fn fail(&mut self) -> Done
-        ensures state { view speed_of line_of self.new ≡ failing (view speed_of line_of self.old) }
-        ensures done { result ≡ done_with None None (length (view speed_of line_of self.old).waiting) }
+        ensures state { view E.speed_of E.line_of self.new ≡ failing (view E.speed_of E.line_of self.old) }
+        ensures done { result ≡ done_with None None (length (view E.speed_of E.line_of self.old).waiting) }
     {
         self.desk.mode = Mode::SystemFailure;
         self.desk.authority = false;
@@ -81,9 +81,9 @@ impl<E: TrainEnd> Cab<E> {
 
     // What an accepted cycle does.
     pub fn cycle_change(&mut self, block: &[u8]) -> Done
-        requires { ∥ Facts (view speed_of line_of self.old) ∥₁ }
-        ensures state { view speed_of line_of self.new ≡ (cycle_change (reading block.now) (view speed_of line_of self.old)).state }
-        ensures done { result ≡ done_of (cycle_change (reading block.now) (view speed_of line_of self.old)) }
+        requires { ∥ Facts (view E.speed_of E.line_of self.old) ∥₁ }
+        ensures state { view E.speed_of E.line_of self.new ≡ (cycle_change (E.reading block.now) (view E.speed_of E.line_of self.old)).state }
+        ensures done { result ≡ done_of (cycle_change (E.reading block.now) (view E.speed_of E.line_of self.old)) }
     {
         if self.cycle < u32::MAX {
             self.advance(block)

@@ -36,7 +36,7 @@ fn hearing(listed: bool, heard: bool) -> Option<Refusal>
 
 impl<E: TrainEnd> Cab<E> {
     fn text_refusal(&self, number: u8, wanted: bool) -> Option<Refusal>
-        ensures { result ≡ text_refusal number wanted (view speed_of line_of self.now) }
+        ensures { result ≡ text_refusal number wanted (view E.speed_of E.line_of self.now) }
     {
         if !wanted {
             None
@@ -50,7 +50,7 @@ impl<E: TrainEnd> Cab<E> {
     }
 
     fn withdrawal_refusal(&self, number: u8) -> Option<Refusal>
-        ensures { result ≡ order_refusal (orders.OrderValue.withdrawal number) (view speed_of line_of self.now) }
+        ensures { result ≡ order_refusal (orders.OrderValue.withdrawal number) (view E.speed_of E.line_of self.now) }
     {
         if !self.waiting.holds(Class::Text, number) {
             Some(Refusal::NoSuchText)
@@ -62,7 +62,7 @@ impl<E: TrainEnd> Cab<E> {
     }
 
     pub fn order_refusal(&self, order: Order<'_>) -> Option<Refusal>
-        ensures { result ≡ refusal_of (events.Event.order (value_of order.entry)) (view speed_of line_of self.now) }
+        ensures { result ≡ refusal_of (events.Event.order (value_of order.entry)) (view E.speed_of E.line_of self.now) }
     {
         match (self.desk.mode, order) {
             (Mode::SystemFailure, _) => Some(Refusal::InSystemFailure),
@@ -78,8 +78,8 @@ impl<E: TrainEnd> Cab<E> {
 
     // Another mode is entered, and all but Full Supervision ask the driver.
     fn go_on_in(&mut self, mode: Mode) -> Done
-        ensures state { view speed_of line_of self.new ≡ (authority_change mode (view speed_of line_of self.old)).state }
-        ensures done { result ≡ done_of (authority_change mode (view speed_of line_of self.old)) }
+        ensures state { view E.speed_of E.line_of self.new ≡ (authority_change mode (view E.speed_of E.line_of self.old)).state }
+        ensures done { result ≡ done_of (authority_change mode (view E.speed_of E.line_of self.old)) }
     {
         if is_mode(self.desk.mode, mode) {
             return Done::withdrawing(0);
@@ -93,8 +93,8 @@ impl<E: TrainEnd> Cab<E> {
     }
 
     fn authority(&mut self, mode: Mode) -> Done
-        ensures state { view speed_of line_of self.new ≡ (authority_change mode (authorized (view speed_of line_of self.old))).state }
-        ensures done { result ≡ done_of (authority_change mode (authorized (view speed_of line_of self.old))) }
+        ensures state { view E.speed_of E.line_of self.new ≡ (authority_change mode (authorized (view E.speed_of E.line_of self.old))).state }
+        ensures done { result ≡ done_of (authority_change mode (authorized (view E.speed_of E.line_of self.old))) }
     {
         self.desk.authority = true;
         self.desk.pending = false;
@@ -105,8 +105,8 @@ impl<E: TrainEnd> Cab<E> {
     fn change_level(&mut self, level: Level) -> Done
         requires fitted { is_level level levels.Zero ≡ true → is_mode self.old.desk.mode modes.Unfitted ≡ false }
         requires responsible { is_level self.old.desk.level levels.Zero ≡ true → is_mode self.old.desk.mode modes.StaffResponsible ≡ false }
-        ensures state { view speed_of line_of self.new ≡ (level_change self.old.desk.level level (view speed_of line_of self.old)).state }
-        ensures done { result ≡ done_of (level_change self.old.desk.level level (view speed_of line_of self.old)) }
+        ensures state { view E.speed_of E.line_of self.new ≡ (level_change self.old.desk.level level (view E.speed_of E.line_of self.old)).state }
+        ensures done { result ≡ done_of (level_change self.old.desk.level level (view E.speed_of E.line_of self.old)) }
     {
         let old = self.desk.level;
         self.desk.level = level;
@@ -127,9 +127,9 @@ impl<E: TrainEnd> Cab<E> {
     }
 
     fn text(&mut self, number: u8, wanted: bool) -> Done
-        requires { text_refusal number wanted (view speed_of line_of self.old) ≡ None }
-        ensures state { view speed_of line_of self.new ≡ (text_change number wanted (view speed_of line_of self.old)).state }
-        ensures done { result ≡ done_of (text_change number wanted (view speed_of line_of self.old)) }
+        requires { text_refusal number wanted (view E.speed_of E.line_of self.old) ≡ None }
+        ensures state { view E.speed_of E.line_of self.new ≡ (text_change number wanted (view E.speed_of E.line_of self.old)).state }
+        ensures done { result ≡ done_of (text_change number wanted (view E.speed_of E.line_of self.old)) }
     {
         if !wanted {
             return Done::withdrawing(0);
@@ -139,17 +139,17 @@ impl<E: TrainEnd> Cab<E> {
     }
 
     fn withdraw_text(&mut self, number: u8) -> Done
-        requires { waits class.Text number (view speed_of line_of self.old).waiting ≡ true }
-        ensures state { view speed_of line_of self.new ≡ (order_change (orders.OrderValue.withdrawal number) (view speed_of line_of self.old)).state }
-        ensures done { result ≡ done_of (order_change (orders.OrderValue.withdrawal number) (view speed_of line_of self.old)) }
+        requires { waits class.Text number (view E.speed_of E.line_of self.old).waiting ≡ true }
+        ensures state { view E.speed_of E.line_of self.new ≡ (order_change (orders.OrderValue.withdrawal number) (view E.speed_of E.line_of self.old)).state }
+        ensures done { result ≡ done_of (order_change (orders.OrderValue.withdrawal number) (view E.speed_of E.line_of self.old)) }
     {
         Done::withdrawing(self.waiting.withdraw(Which::For(Class::Text, number)))
     }
 
     fn stop(&mut self) -> Done
-        requires { number_of class.Trip (view speed_of line_of self.old).waiting ≡ 0 }
-        ensures state { view speed_of line_of self.new ≡ (order_change orders.OrderValue.stop (view speed_of line_of self.old)).state }
-        ensures done { result ≡ done_of (order_change orders.OrderValue.stop (view speed_of line_of self.old)) }
+        requires { number_of class.Trip (view E.speed_of E.line_of self.old).waiting ≡ 0 }
+        ensures state { view E.speed_of E.line_of self.new ≡ (order_change orders.OrderValue.stop (view E.speed_of E.line_of self.old)).state }
+        ensures done { result ≡ done_of (order_change orders.OrderValue.stop (view E.speed_of E.line_of self.old)) }
     {
         let withdrawn = self.enter(Mode::Trip);
         self.desk.authority = false;
@@ -158,9 +158,9 @@ impl<E: TrainEnd> Cab<E> {
     }
 
     fn permission(&mut self) -> Done
-        requires { number_of class.Mode (view speed_of line_of self.old).waiting ≡ 0 }
-        ensures state { view speed_of line_of self.new ≡ (order_change orders.OrderValue.permission (view speed_of line_of self.old)).state }
-        ensures done { result ≡ done_of (order_change orders.OrderValue.permission (view speed_of line_of self.old)) }
+        requires { number_of class.Mode (view E.speed_of E.line_of self.old).waiting ≡ 0 }
+        ensures state { view E.speed_of E.line_of self.new ≡ (order_change orders.OrderValue.permission (view E.speed_of E.line_of self.old)).state }
+        ensures done { result ≡ done_of (order_change orders.OrderValue.permission (view E.speed_of E.line_of self.old)) }
     {
         self.desk.pending = false;
         let request = self.raise_alone(Class::Mode, 1, false);
@@ -171,8 +171,8 @@ impl<E: TrainEnd> Cab<E> {
     fn level(&mut self, number: u8) -> Done
         requires fitted { is_mode self.old.desk.mode modes.Unfitted ≡ true → is_level self.old.desk.level levels.Zero ≡ true }
         requires responsible { is_level self.old.desk.level levels.Zero ≡ true → is_mode self.old.desk.mode modes.StaffResponsible ≡ false }
-        ensures state { view speed_of line_of self.new ≡ (order_change (orders.OrderValue.level number) (view speed_of line_of self.old)).state }
-        ensures done { result ≡ done_of (order_change (orders.OrderValue.level number) (view speed_of line_of self.old)) }
+        ensures state { view E.speed_of E.line_of self.new ≡ (order_change (orders.OrderValue.level number) (view E.speed_of E.line_of self.old)).state }
+        ensures done { result ≡ done_of (order_change (orders.OrderValue.level number) (view E.speed_of E.line_of self.old)) }
     {
         let level = level_numbered(number);
         if is_level(level, self.desk.level) {
@@ -183,10 +183,10 @@ impl<E: TrainEnd> Cab<E> {
 
     // What an accepted order does.
     pub fn order_change(&mut self, order: Order<'_>) -> Done
-        requires facts { ∥ Facts (view speed_of line_of self.old) ∥₁ }
-        requires accepted { refusal_of (events.Event.order (value_of order)) (view speed_of line_of self.old) ≡ None }
-        ensures state { view speed_of line_of self.new ≡ (order_change (value_of order.entry) (view speed_of line_of self.old)).state }
-        ensures done { result ≡ done_of (order_change (value_of order.entry) (view speed_of line_of self.old)) }
+        requires facts { ∥ Facts (view E.speed_of E.line_of self.old) ∥₁ }
+        requires accepted { refusal_of (events.Event.order (value_of order)) (view E.speed_of E.line_of self.old) ≡ None }
+        ensures state { view E.speed_of E.line_of self.new ≡ (order_change (value_of order.entry) (view E.speed_of E.line_of self.old)).state }
+        ensures done { result ≡ done_of (order_change (value_of order.entry) (view E.speed_of E.line_of self.old)) }
     {
         match order {
             Order::Authority(mode) => self.authority(mode),

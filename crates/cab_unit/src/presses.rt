@@ -34,7 +34,7 @@ fn entered_by(ended: Option<Request>) -> Option<Mode>
 
 impl<E: TrainEnd> Cab<E> {
     pub fn press_refusal(&self, button: u8) -> Option<Refusal>
-        ensures { result ≡ refusal_of (events.Event.press button) (view speed_of line_of self.now) }
+        ensures { result ≡ refusal_of (events.Event.press button) (view E.speed_of E.line_of self.now) }
     {
         match (self.desk.mode, button) {
             (Mode::SystemFailure, _) => Some(Refusal::InSystemFailure),
@@ -45,8 +45,8 @@ impl<E: TrainEnd> Cab<E> {
     }
 
     fn acknowledge(&mut self) -> Done
-        ensures state { view speed_of line_of self.new ≡ (acknowledge_change (view speed_of line_of self.old)).state }
-        ensures done { result ≡ done_of (acknowledge_change (view speed_of line_of self.old)) }
+        ensures state { view E.speed_of E.line_of self.new ≡ (acknowledge_change (view E.speed_of E.line_of self.old)).state }
+        ensures done { result ≡ done_of (acknowledge_change (view E.speed_of E.line_of self.old)) }
     {
         let ended = self.waiting.end_first();
         let withdrawn = match entered_by(ended) {
@@ -61,9 +61,9 @@ impl<E: TrainEnd> Cab<E> {
     }
 
     fn start(&mut self) -> Done
-        requires { number_of class.Mode (view speed_of line_of self.old).waiting ≡ 0 }
-        ensures state { view speed_of line_of self.new ≡ (start_change (view speed_of line_of self.old)).state }
-        ensures done { result ≡ done_of (start_change (view speed_of line_of self.old)) }
+        requires { number_of class.Mode (view E.speed_of E.line_of self.old).waiting ≡ 0 }
+        ensures state { view E.speed_of E.line_of self.new ≡ (start_change (view E.speed_of E.line_of self.old)).state }
+        ensures done { result ≡ done_of (start_change (view E.speed_of E.line_of self.old)) }
     {
         let request = match self.desk.level {
             Level::Two => {
@@ -77,8 +77,8 @@ impl<E: TrainEnd> Cab<E> {
     }
 
     fn close_desk(&mut self) -> Done
-        ensures state { view speed_of line_of self.new ≡ (close_change (view speed_of line_of self.old)).state }
-        ensures done { result ≡ done_of (close_change (view speed_of line_of self.old)) }
+        ensures state { view E.speed_of E.line_of self.new ≡ (close_change (view E.speed_of E.line_of self.old)).state }
+        ensures done { result ≡ done_of (close_change (view E.speed_of E.line_of self.old)) }
     {
         self.desk.mode = Mode::Standby;
         self.desk.authority = false;
@@ -93,9 +93,9 @@ impl<E: TrainEnd> Cab<E> {
     // What an accepted press does.
     pub fn press_change(&mut self, button: u8) -> Done
         requires button { 1 ≤ button }
-        requires enabled { is_enabled button (view speed_of line_of self.old) ≡ true }
-        ensures state { view speed_of line_of self.new ≡ (press_change button (view speed_of line_of self.old)).state }
-        ensures done { result ≡ done_of (press_change button (view speed_of line_of self.old)) }
+        requires enabled { is_enabled button (view E.speed_of E.line_of self.old) ≡ true }
+        ensures state { view E.speed_of E.line_of self.new ≡ (press_change button (view E.speed_of E.line_of self.old)).state }
+        ensures done { result ≡ done_of (press_change button (view E.speed_of E.line_of self.old)) }
     {
         match button {
             1 => self.acknowledge(),

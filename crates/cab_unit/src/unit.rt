@@ -23,7 +23,7 @@ pub struct Unit<E> {
 
 impl<E: TrainEnd> Unit<E> {
     pub fn switch_on(end: E) -> Unit<E>
-        ensures { view speed_of line_of result.cab ≡ switched_on (speed_of end) }
+        ensures { view E.speed_of E.line_of result.cab ≡ switched_on (E.speed_of end) }
     {
         let desk = Desk {
             mode: Mode::Standby,
@@ -45,8 +45,8 @@ impl<E: TrainEnd> Unit<E> {
 
     // Leaves the end with its line at emergency.
     pub fn switch_off(self) -> E
-        ensures line { line_of result ≡ Emergency }
-        ensures speed { speed_of result ≡ speed_of self.cab.end }
+        ensures line { E.line_of result ≡ Emergency }
+        ensures speed { E.speed_of result ≡ E.speed_of self.cab.end }
     {
         let Unit { cab } = self;
         let Cab {
@@ -62,40 +62,40 @@ impl<E: TrainEnd> Unit<E> {
 
     // What the unit shows, between calls.
     pub fn answer(&self) -> Answer
-        ensures { result ≡ answering None None None 0 (view speed_of line_of self.now.cab) }
+        ensures { result ≡ answering None None None 0 (view E.speed_of E.line_of self.now.cab) }
     {
         self.cab.answer(None, Done::withdrawing(0))
     }
 
     pub fn press(&mut self, button: u8) -> Answer
-        ensures state { view speed_of line_of self.new.cab ≡ next reading (events.Event.press button) (view speed_of line_of self.old.cab) }
-        ensures answer { result ≡ reply reading (events.Event.press button) (view speed_of line_of self.old.cab) }
-        ensures refused { is_some (refusal_of (events.Event.press button) (view speed_of line_of self.old.cab)) ≡ true → self.new.cab ≡ self.old.cab }
+        ensures state { view E.speed_of E.line_of self.new.cab ≡ next E.reading (events.Event.press button) (view E.speed_of E.line_of self.old.cab) }
+        ensures answer { result ≡ reply E.reading (events.Event.press button) (view E.speed_of E.line_of self.old.cab) }
+        ensures refused { is_some (refusal_of (events.Event.press button) (view E.speed_of E.line_of self.old.cab)) ≡ true → self.new.cab ≡ self.old.cab }
     {
         self.cab.press(button)
     }
 
     pub fn order(&mut self, order: Order<'_>) -> Answer
-        ensures state { view speed_of line_of self.new.cab ≡ next reading (events.Event.order (value_of order.entry)) (view speed_of line_of self.old.cab) }
-        ensures answer { result ≡ reply reading (events.Event.order (value_of order.entry)) (view speed_of line_of self.old.cab) }
-        ensures refused { is_some (refusal_of (events.Event.order (value_of order.entry)) (view speed_of line_of self.old.cab)) ≡ true → self.new.cab ≡ self.old.cab }
+        ensures state { view E.speed_of E.line_of self.new.cab ≡ next E.reading (events.Event.order (value_of order.entry)) (view E.speed_of E.line_of self.old.cab) }
+        ensures answer { result ≡ reply E.reading (events.Event.order (value_of order.entry)) (view E.speed_of E.line_of self.old.cab) }
+        ensures refused { is_some (refusal_of (events.Event.order (value_of order.entry)) (view E.speed_of E.line_of self.old.cab)) ≡ true → self.new.cab ≡ self.old.cab }
     {
         self.cab.order(order)
     }
 
     pub fn cycle(&mut self, block: &[u8]) -> Answer
-        ensures state { view speed_of line_of self.new.cab ≡ next reading (events.Event.cycle block.now) (view speed_of line_of self.old.cab) }
-        ensures answer { result ≡ reply reading (events.Event.cycle block.now) (view speed_of line_of self.old.cab) }
-        ensures refused { is_some (refusal_of (events.Event.cycle block.now) (view speed_of line_of self.old.cab)) ≡ true → self.new.cab ≡ self.old.cab }
+        ensures state { view E.speed_of E.line_of self.new.cab ≡ next E.reading (events.Event.cycle block.now) (view E.speed_of E.line_of self.old.cab) }
+        ensures answer { result ≡ reply E.reading (events.Event.cycle block.now) (view E.speed_of E.line_of self.old.cab) }
+        ensures refused { is_some (refusal_of (events.Event.cycle block.now) (view E.speed_of E.line_of self.old.cab)) ≡ true → self.new.cab ≡ self.old.cab }
     {
         self.cab.cycle(block)
     }
 
     // Uses the record up where it is taken, and hands it back where it is not.
     pub fn take(&mut self, confirmed: Confirmed) -> Result<Answer, (Answer, Confirmed)>
-        ensures state { view speed_of line_of self.new.cab ≡ next reading (events.Event.take confirmed.train) (view speed_of line_of self.old.cab) }
-        ensures answer { MatchResult result (λ a. (a ≡ reply reading (events.Event.take confirmed.train) (view speed_of line_of self.old.cab)) × (refusal_of (events.Event.take confirmed.train) (view speed_of line_of self.old.cab) ≡ None)) (λ b. (b.0 ≡ reply reading (events.Event.take confirmed.train) (view speed_of line_of self.old.cab)) × (is_some (refusal_of (events.Event.take confirmed.train) (view speed_of line_of self.old.cab)) ≡ true) × (b.1 ≡ confirmed)) }
-        ensures refused { is_some (refusal_of (events.Event.take confirmed.train) (view speed_of line_of self.old.cab)) ≡ true → self.new.cab ≡ self.old.cab }
+        ensures state { view E.speed_of E.line_of self.new.cab ≡ next E.reading (events.Event.take confirmed.train) (view E.speed_of E.line_of self.old.cab) }
+        ensures answer { MatchResult result (λ a. (a ≡ reply E.reading (events.Event.take confirmed.train) (view E.speed_of E.line_of self.old.cab)) × (refusal_of (events.Event.take confirmed.train) (view E.speed_of E.line_of self.old.cab) ≡ None)) (λ b. (b.0 ≡ reply E.reading (events.Event.take confirmed.train) (view E.speed_of E.line_of self.old.cab)) × (is_some (refusal_of (events.Event.take confirmed.train) (view E.speed_of E.line_of self.old.cab)) ≡ true) × (b.1 ≡ confirmed)) }
+        ensures refused { is_some (refusal_of (events.Event.take confirmed.train) (view E.speed_of E.line_of self.old.cab)) ≡ true → self.new.cab ≡ self.old.cab }
     {
         let answer = self.cab.take(*confirmed.numbers());
         match answer.outcome {

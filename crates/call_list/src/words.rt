@@ -47,7 +47,7 @@ impl ByteTest for LineBreak {
 
 // The place of the first byte that passes the test, or the length where none does.
 pub(crate) fn find<B: ByteTest>(text: &[u8]) -> usize
-    ensures value { result ≡ place_of test text.now }
+    ensures value { result ≡ place_of B.test text.now }
     ensures within { result ≤ length text.now }
 {
     for (i, b) in text.iter().enumerate() {

@@ -19,7 +19,7 @@ fn was_given(answer: &Answer) -> bool
 
 // Gives the end what the call gave it.
 fn hear_call<E: TrainEnd>(end: &mut E, call: &Call<'_>, answer: &Answer)
-    ensures { speed_of end.new ≡ speed_after reading (said call.now) answer.now (speed_of end.old) }
+    ensures { E.speed_of end.new ≡ speed_after E.reading (said call.now) answer.now (E.speed_of end.old) }
 {
     if let Call::Cycle(block) = *call {
         if was_given(answer) {

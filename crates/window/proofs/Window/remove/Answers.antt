@@ -18,11 +18,11 @@ returns-in_default c =
       gone = none;
     }
 
-pub invariant-of-self : goal.invariant-of-self
-invariant-of-self c =
+pub invariant_of-self : goal.invariant_of-self
+invariant_of-self c =
     let w = c.args.self.now in
     let found = simp c.lines.ensures at c.in-Some.ensures.place in
-    (differ_taken w.shelf c.take_out.new.self c.args.number c.in-Some.i c.take_out.result c.take_out.ensures.cases w.distinct found.0 found.1, tt)
+    record { distinct = differ_taken w.shelf c.take_out.new.self c.args.number c.in-Some.i c.take_out.result c.take_out.ensures.cases w.distinct found.0 found.1 }
 
 pub returns-in-Ok : goal.returns-in-Ok
 returns-in-Ok c =

@@ -5,8 +5,8 @@ use Rattle.window.specs.Lines.{PlaceOf}
 use Rattle.window.proofs.Numbers.{has-at, has_nowhere}
 use Rattle.window.proofs.methods.place_of.Goals as goal
 
-pub returns-then-line_number : goal.returns-then-line_number
-returns-then-line_number c =
+pub returns-then-line-number : goal.returns-then-line-number
+returns-then-line-number c =
     let xs = c.args.lines.now in
     let place : PlaceOf xs c.args.number (Some c.loop-i.i) = search (rules, get_or_read) in
     let line : Line = record { cycle = 0; number = 0; place = 0; length = 0 } in

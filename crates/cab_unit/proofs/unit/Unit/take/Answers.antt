@@ -6,10 +6,10 @@ use Rattle.cab_unit.specs.View.{view}
 use Rattle.cab_unit.proofs.Stepping.{facts_after, outcome_is}
 use Rattle.cab_unit.proofs.unit.Unit.take.Goals as goal
 
-pub invariant-of-self : goal.invariant-of-self
-invariant-of-self g c =
+pub invariant_of-self : goal.invariant_of-self
+invariant_of-self g c =
     let see = view g.E.TrainEnd.speed_of g.E.TrainEnd.line_of in
-    (facts_after g.E.TrainEnd.reading (take c.numbers.result.now) (see c.args.self.now.cab) (see c.take-answer.new.self) c.args.self.now.facts c.take-answer.ensures.state, tt)
+    record { facts = facts_after g.E.TrainEnd.reading (take c.numbers.result.now) (see c.args.self.now.cab) (see c.take-answer.new.self) c.args.self.now.facts c.take-answer.ensures.state }
 
 pub returns-in-Some : goal.returns-in-Some
 returns-in-Some g c =

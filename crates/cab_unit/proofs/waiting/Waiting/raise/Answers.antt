@@ -10,13 +10,18 @@ bounds-self-self c =
     let w = c.args.self.now in
     place-left c.args.request.class w.count w.items (omega arith) w.few c.requires.room
 
-pub invariant-of-self : goal.invariant-of-self
-invariant-of-self c =
+pub invariant_of-self : goal.invariant_of-self
+invariant_of-self c =
     let w = c.args.self.now in
     let r = c.args.request in
     let less = place-left r.class w.count w.items (omega arith) w.few c.requires.room in
     let new = sym (raised-behind w.count w.items r (omega arith) c.requires.fresh) in
-    (omega arith, (simp length-set w.long, (subst Few new (few_put r _ c.requires.room w.few), (subst Single new (single_put r _ w.single c.requires.fresh), tt))))
+    record {
+      within = omega arith;
+      long = simp length-set w.long;
+      few = subst Few new (few_put r _ c.requires.room w.few);
+      single = subst Single new (single_put r _ w.single c.requires.fresh);
+    }
 
 pub returns : goal.returns
 returns c =
