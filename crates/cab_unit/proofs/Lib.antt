@@ -9,6 +9,5 @@ pub mod Scans
 pub mod Room
 pub mod Alone
 pub mod Known
-pub mod Watching
 pub mod Stepping
 pub mod Reading

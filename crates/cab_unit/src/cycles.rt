@@ -24,18 +24,22 @@ impl<E: TrainEnd> Cab<E> {
     }
 
     // After 401 silent cycles a standing train has no authority any more.
+    fn lapse(&mut self)
+        ensures { view E.speed_of E.line_of self.new ≡ lapsed (view E.speed_of E.line_of self.old) }
+    {
+        if self.desk.silence == 401 && is_standing(self.end.speed()) {
+            self.desk.authority = false;
+        }
+    }
+
     // A moving train is held in Standby and Post Trip, and tripped in a supervised mode without authority.
     fn watch(&mut self) -> Done
         requires untripped { is_mode self.old.desk.mode modes.Trip ≡ false → number_of class.Trip (view E.speed_of E.line_of self.old).waiting ≡ 0 }
         requires unheld { waits class.Hold 0 (view E.speed_of E.line_of self.old).waiting ≡ false → number_of class.Hold (view E.speed_of E.line_of self.old).waiting ≡ 0 }
-        ensures state { view E.speed_of E.line_of self.new ≡ (watched (lapsed (view E.speed_of E.line_of self.old))).state }
-        ensures done { result ≡ done_of (watched (lapsed (view E.speed_of E.line_of self.old))) }
+        ensures state { view E.speed_of E.line_of self.new ≡ (watched (view E.speed_of E.line_of self.old)).state }
+        ensures done { result ≡ done_of (watched (view E.speed_of E.line_of self.old)) }
     {
         match self.desk.mode {
-            _ if self.desk.silence == 401 && is_standing(self.end.speed()) => {
-                self.desk.authority = false;
-                Done::withdrawing(0)
-            }
             Mode::Standby | Mode::PostTrip
                 if is_moving(self.end.speed()) && !self.waiting.holds(Class::Hold, 0) => {
                 let request = self.raise_alone(Class::Hold, 0, false);
@@ -65,6 +69,7 @@ impl<E: TrainEnd> Cab<E> {
         self.cycle += 1;
         self.end.give_block(block);
         self.count_silence();
+        self.lapse();
         self.watch()
     }
 

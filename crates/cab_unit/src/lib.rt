@@ -4,6 +4,7 @@ mod call;
 mod calls;
 mod cycles;
 mod desk;
+mod examples;
 mod orders;
 mod presses;
 mod speed;
@@ -13,4 +14,6 @@ mod which;
 
 pub use call::Call;
 pub use desk::Desk;
+pub use driver_desk::{Answer, Class, Confirmed, Draft, Level, Refusal, Request, TrainRecord};
+pub use examples::confirm_one;
 pub use unit::Unit;

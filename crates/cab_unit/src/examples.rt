@@ -1,0 +1,25 @@
+ghost use Rattle.std.specs.Prelude.{◌≡◌};
+ghost use Rattle.train_end.specs.declared.brake_line.BrakeLine.TheVariants.{Emergency};
+ghost use Rattle.cab_unit.specs.Events as events;
+ghost use Rattle.cab_unit.specs.Steps.{reply, switched_on};
+
+use crate::unit::Unit;
+use driver_desk::{Answer, Draft};
+use train_end::TrainEnd;
+
+// A desk from switching on to switching off, with one record that the driver confirms.
+pub fn confirm_one<E: TrainEnd>(end: E, draft: Draft) -> (Answer, E)
+    ensures answer { result.0 ≡ reply E.reading (events.Event.take draft.train) (switched_on (E.speed_of end)) }
+    ensures line { E.line_of result.1 ≡ Emergency }
+{
+    let mut unit = Unit::switch_on(end);
+    let confirmed = draft.yes();
+    let answer = match unit.take(confirmed) {
+        Ok(answer) => answer,
+        Err(refused) => {
+            let (answer, _confirmed) = refused;
+            answer
+        }
+    };
+    (answer, unit.switch_off())
+}
