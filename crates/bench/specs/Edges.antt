@@ -65,20 +65,28 @@ Edges =
     ((answer_on None).mode ≡ Standby) × ((switched_on None).line ≡ Service) × ((answer_on None).buttons ≡ 0)
     × ((ran (still ∷ [])).line ≡ Released) × ((replied [] still).buttons ≡ 484)
     × ((ran started).desk.mode ≡ StaffResponsible)
-    × ((ran on_sight).desk.mode ≡ OnSight) × ((ran on_sight).cycle ≡ 100)
+    × ((ran on_sight).cycle ≡ 100)
     × ((ran (on_sight ++ replicate 50 rolling)).line ≡ Released)
     × ((ran (on_sight ++ replicate 51 rolling)).line ≡ Service)
     × ((ran (on_sight ++ replicate 51 rolling ++ (press 1 ∷ []))).line ≡ Released)
     × (first_of (ran (text' 9 ∷ text' 4 ∷ [])).waiting ≡ Some (record { class = class.Text; number = 4; raised = 0; timed = true }))
     × (outcome_number (replied (text' 9 ∷ replicate 51 still) (order (withdrawal 9))).outcome ≡ 34)
-    × ((ran (silent 400)).desk.silence ≡ 400) × ((ran (silent 400)).line ≡ Released)
-    × ((ran (silent 401)).desk.silence ≡ 401) × ((ran (silent 401)).line ≡ Service)
+    × ((ran (silent 400)).line ≡ Released)
+    × ((ran (silent 401)).line ≡ Service)
     × (outcome_number (replied (supervised ++ (at20 ∷ [])) (press 5)).outcome ≡ 0)
-    × ((replied (supervised ++ (at20 ∷ [])) (press 5)).mode ≡ StaffResponsible)
     × (outcome_number (replied (supervised ++ (at21 ∷ [])) (press 5)).outcome ≡ 2)
-    × ((ran (supervised ++ (rolling ∷ order stop ∷ []))).desk.mode ≡ Trip)
     × (outcome_number (replied (supervised ++ (rolling ∷ order stop ∷ [])) (press 1)).outcome ≡ 2)
     × BusEdges × PulseEdges × telegrams.Edges
+
+-- The lists of those edges come to what they are meant for: On Sight in cycle 100, 400 and 401 silent cycles, Staff Responsible by an
+-- Override at 20, Trip by an emergency stop.
+abbrev pub ReachedEdges : Type 0
+ReachedEdges =
+    ((ran on_sight).desk.mode ≡ OnSight)
+    × ((ran (silent 400)).desk.silence ≡ 400)
+    × ((ran (silent 401)).desk.silence ≡ 401)
+    × ((replied (supervised ++ (at20 ∷ [])) (press 5)).mode ≡ StaffResponsible)
+    × ((ran (supervised ++ (rolling ∷ order stop ∷ []))).desk.mode ≡ Trip)
 
 -- twelve texts
 abbrev pub twelve : List Event

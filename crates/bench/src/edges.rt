@@ -1,9 +1,10 @@
-ghost use Rattle.bench.specs.Edges.{Edges, MoreEdges};
+ghost use Rattle.bench.specs.Edges.{Edges, ReachedEdges, MoreEdges};
 ghost use Rattle.bench.specs.Rows.{HeardRows, ButtonRows, RefusalRows, BookRows, EntryRows};
 
 // The edges hold of the definitions.
 pub fn edges_stand() -> u8
     ensures edges { Edges }
+    ensures reached { ReachedEdges }
     ensures more { MoreEdges }
     ensures heard { HeardRows }
     ensures buttons { ButtonRows }

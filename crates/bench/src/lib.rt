@@ -5,7 +5,7 @@ mod runs;
 
 pub use edges::edges_stand;
 pub use laws::laws_stand;
-pub use runs::{Ran, run_both};
+pub use runs::{Cabs, Ran, run_both, run_lent};
 
 #[cfg(test)]
 mod tests;

@@ -1,4 +1,4 @@
-ghost use Rattle.std.specs.Prelude.{◌≡◌, ◌&&◌, map, length, is_ok, IfOk, IfErr, if◌then◌else◌, Some, None, ◌==◌};
+ghost use Rattle.std.specs.Prelude.{◌≡◌, ◌&&◌, map, length, is_ok, IfOk, IfErr, if◌then◌else◌, Some, None, vec_len, ◌==◌};
 ghost use Rattle.cab_unit.specs.Events.{said, Event.take as taken};
 ghost use Rattle.cab_unit.specs.Refusing.{failed};
 ghost use Rattle.driver_desk.specs.declared.refusal.Refusal.TheVariants.{InSystemFailure};
@@ -9,12 +9,21 @@ ghost use Rattle.bench.specs.Runs.{after, answers as answers_of};
 ghost use Rattle.bench.specs.View.{view};
 
 use cab_unit::{Call, Unit};
-use driver_desk::{Answer, Draft, Refusal, TrainRecord};
+use driver_desk::{Answer, Draft, Level, Refusal, TrainRecord};
+use std::alloc::{AllocError, Global};
 use telegram::Mode;
-use train_end::TrainEnd;
+use train_end::{BrakeLine, TrainEnd};
 
-// Two cabs after their runs. The caller switches the units off.
+// Two cabs after their runs, with the answer to each call. The caller switches the units off.
 pub struct Ran<E, F> {
+    pub one: Unit<E>,
+    pub other: Unit<F>,
+    pub answers: Vec<Answer>,
+    pub other_answers: Vec<Answer>,
+}
+
+// Two cabs after their runs, the answers to which lie in lent places. The caller switches the units off.
+pub struct Cabs<E, F> {
     pub one: Unit<E>,
     pub other: Unit<F>,
 }
@@ -82,14 +91,14 @@ fn run_into<E: TrainEnd>(unit: &mut Unit<E>, calls: &[Call<'_>], answers: &mut [
 // Runs two cabs: switches a unit on at each end, and makes the calls of its list. The answers go to the places lent for them.
 //
 // Where there are not as many places as calls, nothing is run and the ends come back as they were.
-pub fn run_both<E: TrainEnd, F: TrainEnd>(
+pub fn run_lent<E: TrainEnd, F: TrainEnd>(
     one: E,
     other: F,
     calls: &[Call<'_>],
     others: &[Call<'_>],
     answers: &mut [Answer],
     other_answers: &mut [Answer],
-) -> Result<Ran<E, F>, (E, F)>
+) -> Result<Cabs<E, F>, (E, F)>
     ensures fits { is_ok result ≡ (length answers.old == length calls.now && length other_answers.old == length others.now) }
     ensures runs { IfOk result (λ ran. AsDefined E.TrainEnd.reading (E.TrainEnd.speed_of one) (map said calls.now) answers.new (view E.TrainEnd.speed_of E.TrainEnd.line_of ran.one) × AsDefined F.TrainEnd.reading (F.TrainEnd.speed_of other) (map said others.now) other_answers.new (view F.TrainEnd.speed_of F.TrainEnd.line_of ran.other)) }
     ensures book { IfOk result (λ ran. ByTheBook (map said calls.now) answers.new (view E.TrainEnd.speed_of E.TrainEnd.line_of ran.one) × ByTheBook (map said others.now) other_answers.new (view F.TrainEnd.speed_of F.TrainEnd.line_of ran.other)) }
@@ -104,5 +113,62 @@ pub fn run_both<E: TrainEnd, F: TrainEnd>(
     let mut other = Unit::switch_on(other);
     run_into(&mut one, calls, answers);
     run_into(&mut other, others, other_answers);
-    Ok(Ran { one, other })
+    Ok(Cabs { one, other })
+}
+
+// A place for each of n answers.
+fn blank_answers(heap: Global, n: usize) -> Result<Vec<Answer>, AllocError>
+    ensures { IfOk result (λ v. vec_len v ≡ n) }
+{
+    let blank = Answer {
+        outcome: None,
+        mode: Mode::Standby,
+        level: Level::Zero,
+        line: BrakeLine::Emergency,
+        buttons: 0,
+        waiting: 0,
+        first: None,
+        raised: None,
+        acknowledged: None,
+        withdrawn: 0,
+    };
+    vec![in heap; blank; n]
+}
+
+// Runs two cabs: switches a unit on at each end, and makes the calls of its list.
+//
+// Room for the answers is made first: where memory is wanting, nothing is run and the ends come back as they were.
+pub fn run_both<E: TrainEnd, F: TrainEnd>(
+    heap: Global,
+    one: E,
+    other: F,
+    calls: &[Call<'_>],
+    others: &[Call<'_>],
+) -> Result<Ran<E, F>, (E, F)>
+    ensures runs { IfOk result (λ ran. AsDefined E.TrainEnd.reading (E.TrainEnd.speed_of one) (map said calls.now) ran.answers.items (view E.TrainEnd.speed_of E.TrainEnd.line_of ran.one) × AsDefined F.TrainEnd.reading (F.TrainEnd.speed_of other) (map said others.now) ran.other_answers.items (view F.TrainEnd.speed_of F.TrainEnd.line_of ran.other)) }
+    ensures book { IfOk result (λ ran. ByTheBook (map said calls.now) ran.answers.items (view E.TrainEnd.speed_of E.TrainEnd.line_of ran.one) × ByTheBook (map said others.now) ran.other_answers.items (view F.TrainEnd.speed_of F.TrainEnd.line_of ran.other)) }
+    ensures entries { IfOk result (λ ran. ConfirmedOnce (map said calls.now) ran.answers.items (view E.TrainEnd.speed_of E.TrainEnd.line_of ran.one) × ConfirmedOnce (map said others.now) ran.other_answers.items (view F.TrainEnd.speed_of F.TrainEnd.line_of ran.other)) }
+    ensures likeness { IfOk result (λ ran. LikeEnds E.TrainEnd.reading (E.TrainEnd.speed_of one) (map said calls.now) ran.answers.items (view E.TrainEnd.speed_of E.TrainEnd.line_of ran.one) F.TrainEnd.reading (F.TrainEnd.speed_of other) (map said others.now) ran.other_answers.items (view F.TrainEnd.speed_of F.TrainEnd.line_of ran.other)) }
+    ensures back { IfErr result (λ ends. (ends.0 ≡ one) × (ends.1 ≡ other)) }
+{
+    let Ok(mut answers) = blank_answers(heap, calls.len()) else {
+        return Err((one, other));
+    };
+    let Ok(mut other_answers) = blank_answers(heap, others.len()) else {
+        return Err((one, other));
+    };
+    let Cabs { one, other } = run_lent(
+        one,
+        other,
+        calls,
+        others,
+        answers.as_mut_slice(),
+        other_answers.as_mut_slice(),
+    )?;
+    Ok(Ran {
+        one,
+        other,
+        answers,
+        other_answers,
+    })
 }

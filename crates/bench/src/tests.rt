@@ -1,7 +1,7 @@
 ghost use Rattle.std.specs.Prelude.{if◌then◌else◌, Some, None};
 ghost use Rattle.std.proofs.Common.{rules};
 
-use crate::{Ran, run_both};
+use crate::{Cabs, run_lent};
 use cab_unit::Call;
 use driver_desk::{Answer, Level, TrainRecord};
 use std::process::Abort;
@@ -85,9 +85,9 @@ fn both_answer<E: TrainEnd + Drop, F: TrainEnd + Drop>(
     let other_answers = other_places
         .get_mut(0..others.len())
         .ok_or("too many calls")?;
-    match run_both(one, other, calls, others, answers, other_answers) {
+    match run_lent(one, other, calls, others, answers, other_answers) {
         Ok(ran) => {
-            let Ran { one, other } = ran;
+            let Cabs { one, other } = ran;
             let _one = one.switch_off();
             let _other = other.switch_off();
         }

@@ -9,7 +9,8 @@ use Rattle.bench.proofs.edges.edges_stand.Goals as goal
 pub returns : goal.returns
 unfolding enabled buttons_of counted lapsed watched cycle_change settled authority_change level_change acknowledge_change start_change close_change press_change
 returns c = record {
-  edges = (refl, refl, refl, refl, refl, refl, refl, refl, refl, refl, refl, refl, refl, refl, refl, refl, refl, refl, refl, refl, refl, refl, (refl, refl), (refl, refl, refl), (refl, refl, refl, refl, refl));
+  edges = (refl, refl, refl, refl, refl, refl, refl, refl, refl, refl, refl, refl, refl, refl, refl, refl, refl, (refl, refl), (refl, refl, refl), (refl, refl, refl, refl, refl));
+  reached = (refl, refl, refl, refl, refl);
   more = (refl, refl, refl, refl, refl, refl, refl, refl, refl, refl, refl, refl, refl, refl, refl, refl, refl);
   heard = refl;
   buttons = refl;

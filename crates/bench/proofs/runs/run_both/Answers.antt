@@ -1,25 +1,21 @@
-use Rattle.std.proofs.Common.{map, rules}
+use Rattle.std.proofs.Common.{◌≡◌, ◌++◌, List, length, take, drop, map, arith, sym, subst₂}
+use Rattle.std.proofs.Math.Seq.{take-append_seam}
+use Rattle.std.proofs.lemmas.Grind.{common_steps}
 use Rattle.cab_unit.specs.Events.{said}
-use Rattle.bench.proofs.Both.{defined_run, defined_booked, defined_confirmed, defined_alike}
+use Rattle.driver_desk.specs.declared.answer.Answer.{Answer}
+use Rattle.bench.specs.Both.{LikeEnds}
+use Rattle.bench.specs.View.{view}
 use Rattle.bench.proofs.runs.run_both.Goals as goal
 
-pub returns : goal.returns
-returns g c =
-    let r = g.E.TrainEnd.reading in
-    let v = g.E.TrainEnd.speed_of c.args.one in
-    let es = map said c.args.calls.now in
-    let a = c.run_into.ensures in
-    let one = defined_run r v es c.switch_on-one.ensures a.state a.answers in
-    let r' = g.F.TrainEnd.reading in
-    let v' = g.F.TrainEnd.speed_of c.args.other in
-    let fs = map said c.args.others.now in
-    let b = c.run_into-2.ensures in
-    let other = defined_run r' v' fs c.switch_on-other.ensures b.state b.answers in
-    record {
-      fits = search rules;
-      runs = (one, other);
-      book = (defined_booked r v es one, defined_booked r' v' fs other);
-      entries = (defined_confirmed r v es one, defined_confirmed r' v' fs other);
-      likeness = defined_alike r v es one r' v' fs other;
-      back = tt;
-    }
+-- the places made for the answers hold what was written to the places lent
+pub returns-clause-likeness : goal.returns-clause-likeness
+returns-clause-likeness g c =
+    let news = c.run_lent.new in
+    let places = c.in-Ok.answers in
+    let places' = c.in-Ok-blank_answers.other_answers in
+    let e : take places.len (news.answers ++ drop (length news.answers) places.items) ≡ news.answers = grind (arith, common_steps, take-append_seam) in
+    let e' : take places'.len (news.other_answers ++ drop (length news.other_answers) places'.items) ≡ news.other_answers = grind (arith, common_steps, take-append_seam) in
+    subst₂
+      (λ (as' bs : List Answer). LikeEnds g.E.TrainEnd.reading (g.E.TrainEnd.speed_of c.args.one) (map said c.args.calls.now) as' (view g.E.TrainEnd.speed_of g.E.TrainEnd.line_of c.in_ok-one.field-0.one)
+        g.F.TrainEnd.reading (g.F.TrainEnd.speed_of c.args.other) (map said c.args.others.now) bs (view g.F.TrainEnd.speed_of g.F.TrainEnd.line_of c.in_ok-one.field-0.other))
+      (sym e) (sym e') c.in_ok-one.ensures.likeness
