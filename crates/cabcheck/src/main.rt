@@ -1,4 +1,5 @@
 // The program: runs a call list through a bus cab and a pulse cab, and lays their answers side by side.
+mod compare;
 mod input;
 mod messages;
 mod options;
@@ -10,6 +11,7 @@ mod words;
 
 use options::{Asked, read_options};
 use run::run_options;
+use std::process::ExitCode;
 
 const HELP: &str = "usage: cabcheck [--tsv] [--second LIST2] [LIST]
 
@@ -24,19 +26,26 @@ or for -, the list comes from standard input.
   --help          print this
   --version       print the version
 
-The status is 1 where answers differ or one cab has more calls, for a bad
-option or a bad line, and where a list cannot be read.
+The status is 1 where answers differ, or where a list cannot be read.
 ";
 
-fn main(rt: HostRuntime) -> anyhow::Result<()> {
-    match read_options(&rt) {
+fn answer_asked(rt: &HostRuntime) -> anyhow::Result<()> {
+    match read_options(rt) {
         Ok(Asked::Help) => rt.print(HELP)?,
         Ok(Asked::Version) => rt.println("cabcheck 0.2.0")?,
-        Ok(Asked::Run(options)) => return run_options(&rt, &options),
+        Ok(Asked::Run(options)) => return run_options(rt, &options),
         Err(e) => {
             eprintln!(rt; "cabcheck: {e}")?;
             return Err(e);
         }
     }
     Ok(())
+}
+
+// What went wrong was said on standard error where it happened.
+fn main(rt: HostRuntime) -> ExitCode {
+    match answer_asked(&rt) {
+        Ok(()) => ExitCode::SUCCESS,
+        Err(_) => ExitCode::FAILURE,
+    }
 }

@@ -22,9 +22,7 @@ pub fn read_options(rt: &HostRuntime) -> anyhow::Result<Asked> {
     let mut list = None;
     let mut second = None;
     let mut second_next = false;
-    let mut words = env::args(rt)?;
-    let _program = words.next();
-    for word in words {
+    for word in env::args(rt)?.skip(1) {
         if second_next {
             second_next = false;
             second = Some(word);

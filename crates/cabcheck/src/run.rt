@@ -1,3 +1,4 @@
+use crate::compare::{Counts, compare_lists, count_answers, unequal_speeds};
 use crate::input::read_source;
 use crate::options::Options;
 use crate::plan::{Cab, Plan, plan_list};
@@ -7,12 +8,10 @@ use anyhow::anyhow;
 use bench::{Ran, run_both};
 use cab_unit::Unit;
 use call_list::{ListFault, Listed, read_list};
-use compare::{Counts, Verdict, compare_runs};
-use driver_desk::{Answer, Level};
+use driver_desk::Answer;
 use std::io;
 use std::io::{BufWriter, Write};
-use telegram::Mode;
-use train_end::{BrakeLine, BusEnd, PulseEnd, TrainEnd};
+use train_end::{BusEnd, PulseEnd, TrainEnd};
 
 // The calls of a list; what is wrong is said on standard error.
 fn load(rt: &HostRuntime, name: &str) -> anyhow::Result<Vec<Listed>> {
@@ -61,29 +60,6 @@ pub fn run_options(rt: &HostRuntime, options: &Options) -> anyhow::Result<()> {
     }
 }
 
-// A place that no answer has been written to yet.
-const BLANK: Answer = Answer {
-    outcome: None,
-    mode: Mode::Standby,
-    level: Level::Zero,
-    line: BrakeLine::Emergency,
-    buttons: 0,
-    waiting: 0,
-    first: None,
-    raised: None,
-    acknowledged: None,
-    withdrawn: 0,
-};
-
-// A place for each of n answers.
-fn blank_answers(rt: &HostRuntime, n: usize) -> anyhow::Result<Vec<Answer>> {
-    let Ok(answers) = vec![in rt.alloc(); BLANK; n] else {
-        eprintln!(rt; "cabcheck: not enough memory")?;
-        return Err(anyhow!("not enough memory"));
-    };
-    Ok(answers)
-}
-
 // Runs both plans and prints what came of it; answers that differ are an error.
 fn run_plans(
     rt: &HostRuntime,
@@ -92,19 +68,23 @@ fn run_plans(
     bus: &Plan<'_>,
     pulse: &Plan<'_>,
 ) -> anyhow::Result<()> {
-    let mut answers = blank_answers(rt, bus.calls.len())?;
-    let mut other_answers = blank_answers(rt, pulse.calls.len())?;
+    let heap = rt.alloc();
     let Ok(ran) = run_both(
+        heap,
         BusEnd::new(),
         PulseEnd::new(),
         &bus.calls,
         &pulse.calls,
-        answers.as_mut_slice(),
-        other_answers.as_mut_slice(),
     ) else {
-        return Err(anyhow!("the answers do not fit"));
+        eprintln!(rt; "cabcheck: not enough memory")?;
+        return Err(anyhow!("not enough memory"));
     };
-    let Ran { one, other } = ran;
+    let Ran {
+        one,
+        other,
+        answers,
+        other_answers,
+    } = ran;
     let _bus_end = one.switch_off();
     let _pulse_end = other.switch_off();
     print_ran(rt, tsv, second, bus, pulse, &answers, &other_answers)
@@ -120,19 +100,8 @@ fn print_ran(
     other_answers: &[Answer],
 ) -> anyhow::Result<()> {
     let heap = rt.alloc();
-    let Verdict {
-        likeness,
-        unequal,
-        counts,
-    } = compare_runs(
-        heap,
-        &mut BusEnd::new(),
-        &mut PulseEnd::new(),
-        &bus.calls,
-        &pulse.calls,
-        answers,
-        other_answers,
-    )?;
+    let likeness = compare_lists(heap, &bus.calls, &pulse.calls, answers, other_answers)?;
+    let counts = count_answers(answers, other_answers, &likeness);
     let bus_side = Side {
         on: answer_on(BusEnd::new()),
         plan: bus,
@@ -149,6 +118,7 @@ fn print_ran(
         print_tsv(&mut out, Cab::Pulse, &pulse_side)?;
     } else {
         print_table(&mut out, heap, bus_side, pulse_side, &likeness)?;
+        let unequal = unequal_speeds(&bus.calls, &pulse.calls, answers, other_answers);
         writeln!(out, "the speeds differ after {unequal} calls")?;
         if second {
             print_likeness(&mut out, likeness.alike, unequal == 0)?;
@@ -183,11 +153,9 @@ fn print_verdict<W: Write>(
         "{calls} calls in the bus cab, {other_calls} in the pulse cab, {} answers compared: ",
         counts.compared
     )?;
-    if counts.differing > 0 {
-        writeln!(out, "{} differ", counts.differing)
-    } else if calls != other_calls {
-        writeln!(out, "all agree, but one cab has more calls")
-    } else {
+    if counts.differing == 0 {
         writeln!(out, "all agree")
+    } else {
+        writeln!(out, "{} differ", counts.differing)
     }
 }

@@ -1,10 +1,10 @@
+use crate::compare::{Likeness, same_asked};
 use crate::messages::{FREE, ROWS, show_call, top_words};
 use crate::plan::{Plan, What};
 use crate::words::{CallWords, RequestWords, outcome_number};
 use cab_unit::Call;
-use compare::{Likeness, same_asked};
 use driver_desk::Answer;
-use std::alloc::{AllocError, Global};
+use std::alloc::Global;
 use std::io;
 use std::io::Write;
 use telegram::Fault;
@@ -209,41 +209,6 @@ fn is_call(row: &Row<'_>) -> bool {
     matches!(row, Row::Call(..))
 }
 
-// Whose row is printed next. What is no call of one cab's unit stands alone where the other cab has a call or nothing there.
-#[derive(Clone, Copy)]
-enum Turn {
-    Both,
-    Bus,
-    Pulse,
-    Over,
-}
-
-fn turn_of(row: &Row<'_>, other: &Row<'_>) -> Turn {
-    match (*row, *other) {
-        (Row::Nothing, Row::Nothing) => Turn::Over,
-        (Row::Call(..) | Row::Nothing, Row::Call(..) | Row::Nothing) => Turn::Both,
-        (_, Row::Call(..) | Row::Nothing) => Turn::Bus,
-        (Row::Call(..) | Row::Nothing, _) => Turn::Pulse,
-        _ => Turn::Both,
-    }
-}
-
-// The row of the cab whose turn it is.
-fn print_alone<W: Write>(
-    out: &mut W,
-    heap: Global,
-    turn: Turn,
-    row: &Row<'_>,
-    other: &Row<'_>,
-) -> anyhow::Result<()> {
-    match turn {
-        Turn::Bus => print_row(out, heap, "bus", row, None)?,
-        _ => print_row(out, heap, "pulse", other, None)?,
-    }
-    writeln!(out)?;
-    Ok(())
-}
-
 fn is_cycle(row: &Row<'_>) -> bool {
     matches!(row, Row::Call(_, Call::Cycle(_), _, _))
 }
@@ -254,45 +219,6 @@ pub struct Side<'p, 'c, 'a> {
     pub on: Answer,
     pub plan: &'p Plan<'c>,
     pub answers: &'a [Answer],
-}
-
-// How far the table has come: the next row and the next call of each cab, and how many cycles the bus cab has had.
-#[derive(Clone, Copy)]
-struct Place {
-    row: usize,
-    other_row: usize,
-    call: usize,
-    other_call: usize,
-    cycle: u32,
-}
-
-impl Place {
-    // Behind these rows of both cabs.
-    fn behind(self, row: &Row<'_>, other: &Row<'_>) -> Place {
-        Place {
-            row: self.row.saturating_add(1),
-            other_row: self.other_row.saturating_add(1),
-            call: self.call.saturating_add(if is_call(row) { 1 } else { 0 }),
-            other_call: self
-                .other_call
-                .saturating_add(if is_call(other) { 1 } else { 0 }),
-            cycle: self.cycle.saturating_add(if is_cycle(row) { 1 } else { 0 }),
-        }
-    }
-
-    // Behind one row of one cab that is no call.
-    fn behind_one(self, turn: Turn) -> Place {
-        match turn {
-            Turn::Bus => Place {
-                row: self.row.saturating_add(1),
-                ..self
-            },
-            _ => Place {
-                other_row: self.other_row.saturating_add(1),
-                ..self
-            },
-        }
-    }
 }
 
 // The table of both cabs; the words of the first cab's top message stand behind its rows.
@@ -306,57 +232,33 @@ pub fn print_table<W: Write>(
     let mut lines = [FREE; ROWS];
     let mut window = Window::new(&mut lines);
     let mut store = Vec::new(heap);
-    let mut place = Place {
-        row: 0,
-        other_row: 0,
-        call: 0,
-        other_call: 0,
-        cycle: 0,
-    };
-    print_heading(out, heap, &bus.on)?;
-    for _ in 0..bus.plan.rows.len().saturating_add(pulse.plan.rows.len()) {
-        let row = row_at(bus.plan, bus.answers, place.row, place.call);
-        let other = row_at(pulse.plan, pulse.answers, place.other_row, place.other_call);
-        let turn = turn_of(&row, &other);
-        if let Turn::Over = turn {
-            break;
-        }
-        if let Turn::Both = turn {
-            note_text(&mut window, &mut store, place.cycle, &row)?;
-            let mark = is_reordered(likeness, &row, place.call);
-            print_pair(out, heap, &row, &other, mark, top_words(&window, &store))?;
-            place = place.behind(&row, &other);
-        } else {
-            print_alone(out, heap, turn, &row, &other)?;
-            place = place.behind_one(turn);
-        }
-    }
-    Ok(())
-}
-
-fn print_heading<W: Write>(out: &mut W, heap: Global, on: &Answer) -> anyhow::Result<()> {
+    let mut call = 0usize;
+    let mut other_call = 0usize;
+    let mut cycle = 0u32;
     writeln!(
         out,
         "  line cab   call           out  mode level brake buttons waiting  first          bytes or km/h  message"
     )?;
-    print_answer(out, heap, 0, "", "on", Column::Blank, on)?;
+    print_answer(out, heap, 0, "", "on", Column::Blank, &bus.on)?;
     writeln!(out)?;
-    Ok(())
-}
-
-// What a call of the bus cab does to its window.
-fn note_text(
-    window: &mut Window<'_>,
-    store: &mut Vec<u8>,
-    cycle: u32,
-    row: &Row<'_>,
-) -> Result<(), AllocError> {
-    if let Row::Call(_, made, _, answer) = *row {
-        show_call(window, store, cycle, &made, &answer)?;
+    for i in 0..bus.plan.rows.len().max(pulse.plan.rows.len()) {
+        let row = row_at(bus.plan, bus.answers, i, call);
+        let other = row_at(pulse.plan, pulse.answers, i, other_call);
+        if let Row::Call(_, made, _, answer) = row {
+            show_call(&mut window, &mut store, cycle, &made, &answer)?;
+        }
+        let reordered = is_call(&row) && likeness.reordered.get(call).copied().unwrap_or(false);
+        print_pair(
+            out,
+            heap,
+            &row,
+            &other,
+            reordered,
+            top_words(&window, &store),
+        )?;
+        cycle = cycle.saturating_add(if is_cycle(&row) { 1 } else { 0 });
+        call = call.saturating_add(if is_call(&row) { 1 } else { 0 });
+        other_call = other_call.saturating_add(if is_call(&other) { 1 } else { 0 });
     }
     Ok(())
-}
-
-fn is_reordered(likeness: &Likeness, row: &Row<'_>, call: usize) -> bool {
-    is_call(row) && likeness.reordered.get(call).copied().unwrap_or(false)
 }
