@@ -1,5 +1,6 @@
 pub mod Telling
 pub mod Counting
+pub mod Equal
 pub mod Asking
 pub mod Shuffling
 pub mod Keying

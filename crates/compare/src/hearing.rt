@@ -47,7 +47,7 @@ pub(crate) fn unequal_speeds<E: TrainEnd, F: TrainEnd>(
     answers: &[Answer],
     other_answers: &[Answer],
 ) -> usize
-    ensures { result ≡ unequal_speeds (told E.TrainEnd.reading (E.TrainEnd.speed_of one.old) (map said calls.now) answers.now) (told F.TrainEnd.reading (F.TrainEnd.speed_of other.old) (map said others.now) other_answers.now) }
+    ensures { result ≡ unequal_speeds (told E.reading (E.speed_of one.old) (map said calls.now) answers.now) (told F.reading (F.speed_of other.old) (map said others.now) other_answers.now) }
 {
     let n = calls
         .len()

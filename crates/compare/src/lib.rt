@@ -1,4 +1,6 @@
 // What two runs have alike: the calls, the speeds, the answers.
+#![tactic(auto)]
+
 mod asked;
 mod compare;
 mod counts;

@@ -43,8 +43,8 @@ fn same_keys(keys: &[(u8, (bool, &[u8]))], others: &[(u8, (bool, &[u8]))]) -> bo
 fn same_sorted(mut keys: Vec<(u8, (bool, &[u8]))>, mut others: Vec<(u8, (bool, &[u8]))>) -> bool
     ensures { Decides result (Shuffle (map keyed keys.entry.items) (map keyed others.entry.items)) }
 {
-    keys.sort();
-    others.sort();
+    keys.sort_unstable();
+    others.sort_unstable();
     same_keys(&keys, &others)
 }
 

@@ -31,9 +31,9 @@ pub fn compare_runs<E: TrainEnd, F: TrainEnd>(
     other_answers: &[Answer],
 ) -> Result<Verdict, AllocError>
     ensures likeness { IfOk result (λ v. Compared v.likeness.alike v.likeness.reordered.items (map said calls.now) answers.now (map said others.now) other_answers.now) }
-    ensures speeds { IfOk result (λ v. v.unequal ≡ unequal_speeds (told E.TrainEnd.reading (E.TrainEnd.speed_of one.old) (map said calls.now) answers.now) (told F.TrainEnd.reading (F.TrainEnd.speed_of other.old) (map said others.now) other_answers.now)) }
+    ensures speeds { IfOk result (λ v. v.unequal ≡ unequal_speeds (told E.reading (E.speed_of one.old) (map said calls.now) answers.now) (told F.reading (F.speed_of other.old) (map said others.now) other_answers.now)) }
     ensures counts { IfOk result (λ v. Counted v.likeness.reordered.items answers.now other_answers.now v.counts.compared v.counts.differing) }
-    ensures law { IfOk result (λ v. (v.likeness.alike ≡ true → v.unequal ≡ 0 → RunsAlike E.TrainEnd.reading (E.TrainEnd.speed_of one.old) (map said calls.now) answers.now F.TrainEnd.reading (F.TrainEnd.speed_of other.old) (map said others.now) other_answers.now v.counts.differing)) }
+    ensures law { IfOk result (λ v. (v.likeness.alike ≡ true → v.unequal ≡ 0 → RunsAlike E.reading (E.speed_of one.old) (map said calls.now) answers.now F.reading (F.speed_of other.old) (map said others.now) other_answers.now v.counts.differing)) }
 {
     let likeness = compare_lists(heap, calls, others, answers, other_answers)?;
     let unequal = unequal_speeds(one, other, calls, others, answers, other_answers);

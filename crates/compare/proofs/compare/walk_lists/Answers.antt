@@ -1,4 +1,4 @@
-use Rattle.std.proofs.Common.{◌+◌, ◌-◌, Bool, ◌&&◌, List, length, vec_items, vec_len, sym, ◌∙◌, subst, arith}
+use Rattle.std.proofs.Common.{◌+◌, Bool, ◌&&◌, List, vec_items, vec_len, sym, ◌∙◌, subst, arith}
 use Rattle.cab_unit.specs.Events.{said}
 use Rattle.compare.proofs.Walking.{Walks, rest_front, front_fits, walk_more, walk_past, marks_more}
 use Rattle.compare.proofs.compare.walk_lists.Goals as goal

@@ -1,4 +1,4 @@
-use Rattle.std.proofs.Common.{◌≡◌, true, is_some, sym, refl, ap, ◌∙◌, subst}
+use Rattle.std.proofs.Common.{◌≡◌, true, is_some, sym, ap, ◌∙◌, rules}
 use Rattle.cab_unit.specs.Events.{Event, Event.take}
 use Rattle.cab_unit.specs.Refusing.{refusal}
 use Rattle.cab_unit.specs.Steps.{next, reply}
@@ -21,6 +21,6 @@ returns-in-Some g c =
     let taken : is_some (refusal (take c.args.confirmed.train) s) ≡ true = ap is_some (sym told ∙ c.in-Some.is) in
     record {
       state = c.take-answer.ensures.state ∙ ap (λ x. next reads x s) e;
-      answer = (answer, taken, refl);
+      answer = search rules;
       refused = λ k. c.take-answer.ensures.refused (ap (λ x. is_some (refusal x s)) e ∙ k);
     }
