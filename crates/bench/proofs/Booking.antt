@@ -16,7 +16,6 @@ use Rattle.cab_unit.specs.Moves.{with_authority, with_pending, on_desk, entered,
 use Rattle.driver_desk.specs.Numbers.{is_mode, is_level, level_number, level_of}
 use Rattle.cab_unit.specs.Orders.{authorized, unauthorized, authority_change, levelled, level_change, text_change, order_change}
 use Rattle.cab_unit.specs.Presses.{enters_by, entered_if, withdrawn_if, acknowledge_change, start_change, close_change, press_change}
-use Rattle.driver_desk.specs.Needing.{needing}
 use Rattle.cab_unit.specs.Refusing.{failed, refusal, order_refusal}
 use Rattle.driver_desk.specs.Requests.{of_class, not_of_class, is_for, waits, number_of, rest_of}
 use Rattle.driver_desk.specs.Sorting.{tally}
@@ -25,7 +24,6 @@ use Rattle.cab_unit.specs.Steps.{changed}
 use Rattle.cab_unit.specs.declared.desk.Desk.{Desk}
 use Rattle.driver_desk.specs.declared.level.Level.{Level}
 use Rattle.driver_desk.specs.declared.level.Level.TheVariants.{Zero, One, Two}
-use Rattle.driver_desk.specs.declared.refusal.Refusal.{Refusal}
 use Rattle.driver_desk.specs.declared.request.Class.{Class}
 use Rattle.driver_desk.specs.declared.request.Class.TheVariants as class
 use Rattle.driver_desk.specs.declared.request.Request.{Request}

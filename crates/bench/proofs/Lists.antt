@@ -3,7 +3,7 @@ use Rattle.std.proofs.Common.{◌≡◌, ℕ, ◌+◌, ◌≤◌, Bool, true, fa
 use mathlib.Core.Path.{fun_ext}
 use Rattle.std.specs.List.{AllByRecursion as All}
 use Rattle.std.proofs.lemmas.Bool.{cases_Bool, true≢false}
-use Rattle.driver_desk.specs.Sorting.{put, some, tally}
+use Rattle.driver_desk.specs.Sorting.{some, tally}
 
 -- as many are kept as pass
 pub length_kept : {X : Type 0} (p : X → Bool) (l : List X) → length (filter p l) ≡ tally p l

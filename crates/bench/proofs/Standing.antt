@@ -19,7 +19,7 @@ use Rattle.driver_desk.specs.Numbers.{is_mode, is_level, level_number, level_of}
 use Rattle.cab_unit.specs.Orders.{authorized, authority_change, levelled, unauthorized, level_change, order_change}
 use Rattle.cab_unit.specs.Presses.{entered_if, withdrawn_if, acknowledge_change, start_change, close_change, press_change}
 use Rattle.driver_desk.specs.Needing.{needing}
-use Rattle.cab_unit.specs.Refusing.{refusal, call_refusal, order_refusal, failed}
+use Rattle.cab_unit.specs.Refusing.{refusal, call_refusal, order_refusal}
 use Rattle.driver_desk.specs.Requests.{of_class, not_of_class, is_for, waits, overdue, any_overdue}
 use Rattle.cab_unit.specs.State.{State, moving}
 use Rattle.cab_unit.specs.Steps.{changed, state_at, answer_at, next, reply, switched_on, with_train}
@@ -27,7 +27,7 @@ use Rattle.driver_desk.specs.declared.answer.Answer.{Answer}
 use Rattle.cab_unit.specs.declared.desk.Desk.{Desk}
 use Rattle.driver_desk.specs.declared.level.Level.TheVariants.{Zero, One, Two}
 use Rattle.driver_desk.specs.declared.refusal.Refusal.{Refusal}
-use Rattle.driver_desk.specs.declared.refusal.Refusal.TheVariants.{NoSuchButton, ButtonNotEnabled, NotHeard, InSystemFailure}
+use Rattle.driver_desk.specs.declared.refusal.Refusal.TheVariants.{NoSuchButton, ButtonNotEnabled, NotHeard}
 use Rattle.driver_desk.specs.declared.request.Class.TheVariants as class
 use Rattle.driver_desk.specs.declared.request.Request.{Request}
 use Rattle.driver_desk.specs.declared.train_record.TrainRecord.{TrainRecord}

@@ -1,5 +1,5 @@
 -- The edges, each told by a list of calls on an unused unit.
-use Rattle.std.specs.Prelude.{◌≡◌, ℕ, Bool, true, false, List, [], ◌∷◌, ◌++◌, replicate, Some, None, Option}
+use Rattle.std.specs.Prelude.{◌≡◌, ℕ, true, false, List, [], ◌∷◌, ◌++◌, replicate, Some, None}
 use Rattle.telegram.specs.Examples as telegrams
 use Rattle.telegram.specs.Format.{OrderValue.authority, OrderValue.level, OrderValue.text, OrderValue.withdrawal, OrderValue.stop, OrderValue.permission}
 use Rattle.telegram.specs.declared.modes.Mode.TheVariants.{Standby, StaffResponsible, FullSupervision, OnSight, Trip}
@@ -10,7 +10,7 @@ use Rattle.cab_unit.specs.Events.{Event, Event.cycle, Event.order, Event.press, 
 use Rattle.driver_desk.specs.Numbers.{outcome_number}
 use Rattle.driver_desk.specs.Requests.{first_of}
 use Rattle.cab_unit.specs.State.{State}
-use Rattle.cab_unit.specs.Steps.{reply, next, switched_on, answer_on}
+use Rattle.cab_unit.specs.Steps.{reply, switched_on, answer_on}
 use Rattle.driver_desk.specs.declared.answer.Answer.{Answer}
 use Rattle.driver_desk.specs.declared.request.Class.TheVariants as class
 use Rattle.bench.specs.Runs.{final_state}

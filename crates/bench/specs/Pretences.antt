@@ -1,5 +1,5 @@
 -- What the laws refuse: an account that does not balance, a made-up count, an entry that was not confirmed once, two ends that differ.
-use Rattle.std.specs.Prelude.{◌≡◌, ℕ, true, false, List, [], ◌∷◌, Some, None, Option}
+use Rattle.std.specs.Prelude.{ℕ, true, false, List, [], ◌∷◌, Some, None, Option}
 use Rattle.telegram.specs.Format.{OrderValue.sign}
 use Rattle.telegram.specs.declared.modes.Mode.{Mode}
 use Rattle.telegram.specs.declared.modes.Mode.TheVariants.{Standby, StaffResponsible, OnSight, LimitedSupervision, Shunting, Unfitted}

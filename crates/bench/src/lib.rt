@@ -1,4 +1,6 @@
 // The bench: whole lists of calls on an unused unit, the book kept of them, and the laws over runs.
+#![tactic(auto)]
+
 mod edges;
 mod laws;
 mod runs;

@@ -5,7 +5,6 @@ use mathlib.Core.Logic.{∥∥₁_elim}
 use native.Mathlib.Nat.{ℕ_set}
 use Rattle.std.proofs.lemmas.Bool.Decides.{nat_tests}
 use Rattle.telegram.specs.Format.{OrderValue, OrderValue.stop, OrderValue.permission}
-use Rattle.telegram.specs.declared.modes.Mode.{Mode}
 use Rattle.telegram.specs.declared.modes.Mode.TheVariants.{StaffResponsible, Unfitted, Trip}
 use Rattle.cab_unit.specs.Cycles.{counted, lapsed}
 use Rattle.cab_unit.specs.Events.{Event.order}

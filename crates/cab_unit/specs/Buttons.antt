@@ -1,7 +1,7 @@
 -- Which button is enabled.
-use Rattle.std.specs.Prelude.{ℕ, ◌+◌, Bool, true, false, cond, not, ◌&&◌, ◌||◌, is_some, Some, None, Option, ◌==◌, nat_le}
+use Rattle.std.specs.Prelude.{ℕ, ◌+◌, Bool, false, cond, not, ◌&&◌, ◌||◌, is_some, Some, None, Option, ◌==◌, nat_le}
 use Rattle.telegram.specs.declared.modes.Mode.{Mode}
-use Rattle.telegram.specs.declared.modes.Mode.TheVariants.{Standby, StaffResponsible, FullSupervision, OnSight, LimitedSupervision, Shunting, Unfitted, Trip, PostTrip, SystemFailure}
+use Rattle.telegram.specs.declared.modes.Mode.TheVariants.{Standby, FullSupervision, OnSight, LimitedSupervision, Shunting, Trip, PostTrip, SystemFailure}
 use Rattle.driver_desk.specs.Numbers.{is_mode, level_number}
 use Rattle.driver_desk.specs.Requests.{of_class, number_of, first_of}
 use Rattle.cab_unit.specs.State.{State, standing, crawling}

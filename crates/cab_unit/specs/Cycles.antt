@@ -1,5 +1,5 @@
 -- What a cycle does.
-use Rattle.std.specs.Prelude.{ℕ, ◌+◌, Bool, true, false, cond, not, ◌&&◌, length, None, Option, ◌==◌, nat_lt}
+use Rattle.std.specs.Prelude.{ℕ, ◌+◌, false, cond, not, ◌&&◌, length, None, Option, ◌==◌, nat_lt}
 use Rattle.telegram.specs.declared.modes.Mode.TheVariants.{Trip}
 use Rattle.cab_unit.specs.Buttons.{supervised, startable}
 use Rattle.cab_unit.specs.Line.{listening}

@@ -1,5 +1,5 @@
 -- The silence rule and the line rule, after switching on and after every call.
-use Rattle.std.specs.Prelude.{ℕ, Bool, true, false, cond, not, ◌&&◌, ◌||◌, is_some, Option, ◌==◌}
+use Rattle.std.specs.Prelude.{ℕ, Bool, cond, not, ◌&&◌, ◌||◌, is_some, Option, ◌==◌}
 use Rattle.telegram.specs.declared.modes.Mode.TheVariants.{FullSupervision, OnSight, Trip, SystemFailure}
 use Rattle.train_end.specs.declared.brake_line.BrakeLine.{BrakeLine}
 use Rattle.train_end.specs.declared.brake_line.BrakeLine.TheVariants.{Released, Service, Emergency}

@@ -1,5 +1,5 @@
 -- The moves that steps are made of.
-use Rattle.std.specs.Prelude.{ℕ, Bool, true, false, cond, not, List, [], length, Some, None, filter, Option}
+use Rattle.std.specs.Prelude.{ℕ, Bool, false, cond, List, [], Some, None, filter, Option}
 use Rattle.telegram.specs.declared.modes.Mode.{Mode}
 use Rattle.telegram.specs.declared.modes.Mode.TheVariants.{SystemFailure}
 use Rattle.driver_desk.specs.Numbers.{is_mode}

@@ -1,6 +1,5 @@
 -- What the places of a store of requests mean: the requests in the first places, in the order `before`.
-use Rattle.std.specs.Prelude.{ℕ, ◌≤◌, Bool, false, not, ◌&&◌, eqb, List, [], ◌∷◌, take}
-use Rattle.driver_desk.specs.Numbers.{class_number}
+use Rattle.std.specs.Prelude.{ℕ, ◌≤◌, Bool, false, not, ◌&&◌, List, [], ◌∷◌, take}
 use Rattle.driver_desk.specs.Requests.{before, of_class, is_for, overdue}
 use Rattle.driver_desk.specs.Sorting.{put, tally}
 use Rattle.driver_desk.specs.declared.request.Class.{Class}

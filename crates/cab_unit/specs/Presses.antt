@@ -1,5 +1,5 @@
 -- What each press does.
-use Rattle.std.specs.Prelude.{ℕ, ◌+◌, ◌-◌, Bool, true, false, cond, not, ◌&&◌, List, Some, None, filter, Option, ◌==◌, nat_le}
+use Rattle.std.specs.Prelude.{ℕ, ◌+◌, ◌-◌, true, false, cond, not, ◌&&◌, List, Some, None, filter, Option, ◌==◌, nat_le}
 use Rattle.telegram.specs.declared.modes.Mode.{Mode}
 use Rattle.telegram.specs.declared.modes.Mode.TheVariants.{Standby, StaffResponsible, Shunting, Unfitted, PostTrip}
 use Rattle.cab_unit.specs.Moves.{with_mode, with_level, with_authority, with_pending, on_desk, on_waiting, entered, withdrawn_at, Change, change, quiet, raising}

@@ -1,5 +1,5 @@
 -- What a unit means.
-use Rattle.std.specs.Prelude.{ℕ, Bool, true, false, List, Some, None, Option, ◌==◌, nat_le, nat_lt}
+use Rattle.std.specs.Prelude.{ℕ, Bool, false, List, Some, None, Option, ◌==◌, nat_le, nat_lt}
 use Rattle.train_end.specs.declared.brake_line.BrakeLine.{BrakeLine}
 use Rattle.cab_unit.specs.declared.desk.Desk.{Desk}
 use Rattle.driver_desk.specs.declared.request.Request.{Request}

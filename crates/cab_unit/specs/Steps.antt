@@ -1,5 +1,5 @@
 -- One call: the state after it, and the answer.
-use Rattle.std.specs.Prelude.{ℕ, Bool, true, false, List, [], length, Some, None, Option}
+use Rattle.std.specs.Prelude.{ℕ, false, List, [], length, Some, None, Option}
 use Rattle.telegram.specs.declared.modes.Mode.TheVariants.{Standby}
 use Rattle.train_end.specs.declared.brake_line.BrakeLine.TheVariants.{Emergency}
 use Rattle.cab_unit.specs.Buttons.{buttons_of}

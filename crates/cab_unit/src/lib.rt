@@ -1,4 +1,6 @@
 // The unit that decides: mode, level, requests to the driver, buttons and brake demand for one desk.
+#![tactic(auto)]
+
 mod cab;
 mod call;
 mod calls;

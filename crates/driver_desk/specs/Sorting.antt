@@ -1,5 +1,5 @@
 -- Lists kept in order by a test of two elements, and what passes a test.
-use Rattle.std.specs.Prelude.{ℕ, ◌+◌, Bool, true, false, cond, ◌||◌, List, [], ◌∷◌}
+use Rattle.std.specs.Prelude.{ℕ, ◌+◌, Bool, false, cond, ◌||◌, List, [], ◌∷◌}
 
 -- a goes in front of the first that is not before it
 abbrev pub put : {X : Type 0} → (X → X → Bool) → X → List X → List X

@@ -1,4 +1,6 @@
 // What passes over the driver's desk: levels, requests, refusals, answers, and the record of the train.
+#![tactic(auto)]
+
 mod answer;
 mod level;
 mod refusal;

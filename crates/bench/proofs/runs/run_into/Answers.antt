@@ -1,4 +1,4 @@
-use Rattle.std.proofs.Common.{◌≡◌, ◌<◌, ◌≤◌, length, sym, ◌∙◌, arith, take_all}
+use Rattle.std.proofs.Common.{◌<◌, ◌≤◌, length, sym, ◌∙◌, arith, take_all}
 use Rattle.std.proofs.lemmas.List.{take_more_set}
 use Rattle.cab_unit.specs.Events.{said}
 use Rattle.cab_unit.specs.Steps.{next, reply}

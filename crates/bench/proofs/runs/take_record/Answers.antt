@@ -1,5 +1,5 @@
 use Rattle.std.proofs.Common.{◌≡◌, ap, ◌∙◌}
-use Rattle.cab_unit.specs.Events.{Event, Event.take}
+use Rattle.cab_unit.specs.Events.{Event.take}
 use Rattle.cab_unit.specs.Steps.{next, reply}
 use Rattle.bench.specs.View.{view}
 use Rattle.bench.proofs.runs.take_record.Goals as goal

@@ -1,5 +1,5 @@
 use Rattle.std.proofs.Common.{◌≡◌, true, is_some, sym, ap, ◌∙◌, rules}
-use Rattle.cab_unit.specs.Events.{Event, Event.take}
+use Rattle.cab_unit.specs.Events.{Event.take}
 use Rattle.cab_unit.specs.Refusing.{refusal}
 use Rattle.cab_unit.specs.Steps.{next, reply}
 use Rattle.cab_unit.specs.View.{view}
