@@ -1,9 +1,13 @@
 -- The list in front of a count, after records were moved.
-use Rattle.std.proofs.Common.{◌≡◌, ℕ, ◌+◌, ◌-◌, ◌<◌, ◌≤◌, min, List, ◌∷◌, length, get_or, take, set, arith}
+use Rattle.std.proofs.Common.{◌≡◌, ℕ, ◌+◌, ◌-◌, ◌<◌, ◌≤◌, min, List, ◌∷◌, length, get_or, take, set, sym, ◌∙◌, arith}
 use Rattle.std.specs.List.{remove}
 use Rattle.std.proofs.lemmas.List.Edits.{length-remove}
-use Rattle.std.proofs.lemmas.List.{places, same_lists, length-set, length-take, get_or-set_same}
+use Rattle.std.proofs.lemmas.List.{places, same_lists, length-set, length-take, get_or-take, get_or-set_same}
 use Rattle.std.proofs.lemmas.Bool.{cases_eq, cases_lt}
+
+-- A record in front of the count is that of the whole run.
+pub there : {X : Type 0} (xs : List X) (count p : ℕ) (x : X) → p < min count (length xs) → x ≡ get_or xs p x → x ≡ get_or (take count xs) p x
+there xs count p x within at = at ∙ sym (get_or-take count xs p x (omega arith))
 
 module _ {X : Type 0} (xs ys : List X) (count n : ℕ) (used : n ≡ min count (length xs)) (long : length ys ≡ length xs) where
   -- With the records moved back by one and `x` written in front, one record more is `x` and then the list.

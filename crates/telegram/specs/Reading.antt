@@ -7,9 +7,7 @@ use Rattle.telegram.specs.declared.faults.Fault.{Fault}
 use Rattle.telegram.specs.declared.faults.Fault.TheVariants.{CutShort, UnknownKind, WrongLength, OutsideList, FillerSet, TextByte}
 use Rattle.telegram.specs.declared.kinds.Kind.{Kind}
 use Rattle.telegram.specs.declared.kinds.Kind.TheVariants.{Authority, Level, Text, TextWithdrawal, EmergencyStop, Sign, Permission}
-use Rattle.telegram.specs.declared.orders.Order.{Order}
 use Rattle.telegram.specs.declared.reader.Read.{Read}
-use Rattle.telegram.specs.declared.reader.Read.TheVariants as Read
 
 -- A refusal, unless a test holds: the refusals then stand in their order.
 abbrev pub unless : {X : Type 0} → Bool → X → X → X

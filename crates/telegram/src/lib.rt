@@ -1,4 +1,6 @@
 // Telegrams: reads the orders in a byte string, one after another, and says where each stands or why one is refused.
+#![tactic(auto)]
+
 mod examples;
 mod faults;
 mod fields;

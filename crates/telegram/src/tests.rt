@@ -127,7 +127,9 @@ fn the_text_is_a_part_of_the_telegram(rt: HostRuntime) -> Result<(), Fail> {
             first,
             after,
         } => {
-            assert!(rt; (number == 7) & wanted & (text == b"Halt") & (first == 0) & (after == 8));
+            assert!(rt;
+                (number == 7) & wanted & (text == b"Halt".as_slice()) & (first == 0) & (after == 8)
+            );
             Ok(())
         },
         _ => Err(Fail::new("no text was read")),

@@ -1,7 +1,7 @@
 -- Blocks that mean a given speed.
-use Rattle.std.proofs.Common.{◌≡◌, ℕ, ◌+◌, ◌*◌, ◌/◌, ◌%◌, ◌<◌, ◌≤◌, eqb, leb, Some, refl, arith}
+use Rattle.std.proofs.Common.{◌+◌, ◌/◌, ◌%◌, arith}
 use Rattle.std.proofs.lemmas.Bool.Decides.{nat_tests}
-use Rattle.train_end.specs.Bus.{bus_fields, valid_bit, filler_bits, speed_bits, EverySpeedHasABlock}
+use Rattle.train_end.specs.Bus.{EverySpeedHasABlock}
 
 -- the valid bit set, no filler, and the speed in the ten bits below
 pub every_speed_has_a_block : EverySpeedHasABlock

@@ -1,5 +1,5 @@
 -- What the pulse end reads in a block: two 16-bit pulse counts, high byte first, one from each axle.
-use Rattle.std.specs.Prelude.{◌≡◌, ℕ, ◌+◌, ◌-◌, ◌*◌, ◌/◌, ◌<◌, ◌≤◌, min, max, Bool, true, false, cond, ◌&&◌, List, [], ◌∷◌, Some, None, Option, nat_le}
+use Rattle.std.specs.Prelude.{◌≡◌, ℕ, ◌+◌, ◌-◌, ◌*◌, ◌/◌, ◌<◌, ◌≤◌, min, max, cond, List, [], ◌∷◌, Some, None, Option, nat_le}
 
 -- what follows from a known value; nothing from an unknown one
 abbrev pub when_known : {X Y : Type 0} → Option X → (X → Option Y) → Option Y

@@ -1,4 +1,6 @@
 // A train end gives the speed and holds the brake line; here are the trait and two makes of it.
+#![tactic(auto)]
+
 mod brake_line;
 mod bus;
 mod end;

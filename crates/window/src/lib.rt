@@ -1,4 +1,6 @@
 // The message window: lines of text on a lent slice, the choice of the top line, and the part of a store that a line shows.
+#![tactic(auto)]
+
 ghost use Rattle.std.specs.Prelude.{◌≡◌, true};
 ghost use Rattle.ordering.specs.Shelf.{items};
 ghost use Rattle.window.specs.Lines.{numbers_differ};

@@ -1,6 +1,6 @@
 use Rattle.std.proofs.Common.{arith, rules}
 use Rattle.std.proofs.lemmas.List.{places, length-take}
-use Rattle.ordering.proofs.Shifting.{gap_closed}
+use Rattle.ordering.proofs.Shifting.{there, gap_closed}
 use Rattle.ordering.proofs.shelf.Shelf.take_out.Goals as goal
 
 pub returns-then-position-n : goal.returns-then-position-n
@@ -15,7 +15,7 @@ returns g c =
       lent = search rules;
       cases = (
         search (rules, length-take),
-        grind (arith, places),
+        there m.run.now m.count c.args.position _ (omega arith) (search rules),
         gap_closed m.run.now c.copy_within.new.self m.count c.used-n.result c.used-n.ensures c.copy_within.ensures.len c.args.position (search rules) moved.0 moved.1,
       );
     }

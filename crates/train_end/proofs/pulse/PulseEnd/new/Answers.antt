@@ -1,6 +1,5 @@
-use Rattle.std.proofs.Common.{rules}
 use Rattle.train_end.proofs.Relays.{fails_safe}
 use Rattle.train_end.proofs.pulse.PulseEnd.new.Goals as goal
 
-pub returns : goal.returns
-returns c = search (rules, fails_safe)
+pub returns-clause-fails_safe : goal.returns-clause-fails_safe
+returns-clause-fails_safe c = fails_safe
