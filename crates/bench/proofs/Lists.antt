@@ -1,7 +1,7 @@
 -- What a withdrawal takes out of a list, and how much.
 use Rattle.std.proofs.Common.{◌≡◌, ℕ, ◌+◌, ◌≤◌, Bool, true, false, cond, not, ◌||◌, List, [], ◌∷◌, length, filter, sym, refl, ap, ◌∙◌, subst, inl, inr, arith}
 use mathlib.Core.Path.{fun_ext}
-use Rattle.std.specs.List.{AllByRecursion as All}
+use Rattle.std.specs.List.{AllByRecursion}
 use Rattle.std.proofs.lemmas.Bool.{cases_Bool, true≢false}
 use Rattle.driver_desk.specs.Sorting.{some, tally}
 
@@ -30,7 +30,7 @@ tally-some p (x ∷ xs) h = elim (cases_Bool (p x)) [
 ]
 
 -- all that fail the test stay
-pub kept_others : {X : Type 0} (p : X → Bool) (l : List X) → All (λ x. p x ≡ false) l → filter (λ x. not (p x)) l ≡ l
+pub kept_others : {X : Type 0} (p : X → Bool) (l : List X) → AllByRecursion (λ x. p x ≡ false) l → filter (λ x. not (p x)) l ≡ l
 kept_others p [] h = refl
 kept_others p (x ∷ xs) h = let e = h.0 in simp e (ap (λ t. x ∷ t) (kept_others p xs h.1))
 

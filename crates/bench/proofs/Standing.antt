@@ -1,6 +1,6 @@
 -- On Sight, Limited Supervision, Staff Responsible or Unfitted, standing over 50 cycles with the line released, was confirmed exactly once.
 use Rattle.std.proofs.Common.{◌≡◌, ℕ, ◌+◌, ◌-◌, ◌<◌, ◌≤◌, Bool, true, false, cond, not, ◌&&◌, ◌||◌, eqb, ltb, leb, List, [], ◌∷◌, length, Some, None, filter, Option, sym, refl, ap, ◌∙◌, subst, inl, inr, arith}
-use Rattle.std.specs.List.{AllByRecursion as All}
+use Rattle.std.specs.List.{AllByRecursion}
 use Rattle.std.proofs.lemmas.Bool.{cases_Bool, cond_both, eqb-true, both_ways}
 use Rattle.std.proofs.lemmas.Bool.Decides.{nat_tests}
 use Rattle.telegram.specs.Format.{OrderValue, OrderValue.authority, OrderValue.level, OrderValue.text, OrderValue.withdrawal, OrderValue.stop, OrderValue.sign, OrderValue.permission}
@@ -123,7 +123,7 @@ module _ (n : ℕ) (first : eqb n 1 ≡ true) (d : Desk) (held : Option TrainRec
       ]
 
   -- a mode that it enters is another one, since an untimed mode request waits only in Standby or Post Trip
-  keeps-first : (l : List Request) → All (λ r. fitting d r ≡ true) l → Keeps (press n) (holding l) (acknowledge_change (holding l))
+  keeps-first : (l : List Request) → AllByRecursion (λ r. fitting d r ≡ true) l → Keeps (press n) (holding l) (acknowledge_change (holding l))
   unfolding acknowledge_change
   keeps-first [] fit = stays (press n) (holding []) (quiet (holding [])) refl (omega arith) refl refl
   keeps-first (r ∷ l) fit =

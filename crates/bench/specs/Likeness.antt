@@ -1,6 +1,6 @@
 -- When two runs are alike: the same calls, where only blocks may differ, and stretches of accepted texts may come in another order.
 use Rattle.std.specs.Prelude.{◌≡◌, ℕ, Bool, true, false, cond, not, ◌&&◌, List, [], ◌∷◌, ◌++◌, map, is_some, None, Option}
-use Rattle.std.specs.List.{AllByRecursion as All}
+use Rattle.std.specs.List.{AllByRecursion}
 use Rattle.telegram.specs.Format.{OrderValue, OrderValue.authority, OrderValue.level, OrderValue.text, OrderValue.withdrawal, OrderValue.stop, OrderValue.sign, OrderValue.permission}
 use Rattle.telegram.specs.declared.modes.Mode.TheVariants.{SystemFailure}
 use Rattle.cab_unit.specs.Events.{Event, Event.cycle, Event.order, Event.press, Event.take}
@@ -60,7 +60,7 @@ is_text (take t) = false
 
 -- each is a text order that was accepted
 abbrev pub AcceptedTexts : List Told → Type 0
-AcceptedTexts xs = All (λ x. (is_text x.call ≡ true) × (x.answer.outcome ≡ None)) xs
+AcceptedTexts xs = AllByRecursion (λ x. (is_text x.call ≡ true) × (x.answer.outcome ≡ None)) xs
 
 -- two runs are alike, call by call or by a stretch of texts
 pub data Alike : List Told → List Told → Type 0 where

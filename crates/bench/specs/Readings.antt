@@ -1,6 +1,6 @@
 -- Three readings that are ruled out, of every state that calls can reach.
 use Rattle.std.specs.Prelude.{◌≡◌, ℕ, true, false, List, Some, None, Option}
-use Rattle.std.specs.List.{AllByRecursion as All}
+use Rattle.std.specs.List.{AllByRecursion}
 use Rattle.telegram.specs.Format.{OrderValue.authority}
 use Rattle.telegram.specs.declared.modes.Mode.TheVariants.{OnSight, SystemFailure}
 use Rattle.cab_unit.specs.Events.{Event, Event.cycle, Event.order, Event.press}
@@ -26,7 +26,7 @@ MovingKeepsAuthority reads s = (block : List ℕ) → moving (reads block) ≡ t
 -- Acknowledge ends the first, and no waiting request is before it
 abbrev pub EndsTheFirst : (List ℕ → Option ℕ) → State → Type 0
 EndsTheFirst reads s = (r : Request) → (reply reads (press 1) s).acknowledged ≡ Some r →
-    (first_of s.waiting ≡ Some r) × All (λ x. before x r ≡ false) s.waiting
+    (first_of s.waiting ≡ Some r) × AllByRecursion (λ x. before x r ≡ false) s.waiting
 
 abbrev pub RuledOut : Type 0
 RuledOut = (reads : List ℕ → Option ℕ) (speed : Option ℕ) (es : List Event) →

@@ -1,6 +1,6 @@
 -- The facts hold of every state that calls can reach. Assumes nothing.
 use Rattle.std.proofs.Common.{◌≡◌, ℕ, ◌+◌, ◌-◌, ◌<◌, ◌≤◌, Bool, true, false, cond, not, ◌&&◌, ◌||◌, eqb, ltb, leb, List, [], ◌∷◌, Some, None, filter, Option, sym, refl, ◌∙◌, subst, inl, inr, arith}
-use Rattle.std.specs.List.{AllByRecursion as All}
+use Rattle.std.specs.List.{AllByRecursion}
 use Rattle.std.proofs.ByRecursion.{all_kept_by, All-weaker}
 use Rattle.std.proofs.lemmas.Bool.{cases_Bool, cond_both, cond-false, both_ways, and_parts, eqb-true, leb-false}
 use Rattle.std.proofs.lemmas.Bool.Decides.{nat_tests}
@@ -44,11 +44,11 @@ abbrev pub hold_fits : Request → Bool
 hold_fits r = not (of_class class.Hold r) || eqb r.number 0
 
 -- what fits a desk holds no hold of another number
-pub holds_fit : (d : Desk) (l : List Request) → All (λ r. fitting d r ≡ true) l → All (λ r. hold_fits r ≡ true) l
+pub holds_fit : (d : Desk) (l : List Request) → AllByRecursion (λ r. fitting d r ≡ true) l → AllByRecursion (λ r. hold_fits r ≡ true) l
 holds_fit d l h = All-weaker (λ r. fitting d r ≡ true) (λ r. hold_fits r ≡ true) (λ r k. (and_parts _ _ k).1) l h
 
 -- with no mode request, every desk fits
-pub unasked_fit : (d : Desk) (l : List Request) → number_of class.Mode l ≡ 0 → All (λ r. hold_fits r ≡ true) l → All (λ r. fitting d r ≡ true) l
+pub unasked_fit : (d : Desk) (l : List Request) → number_of class.Mode l ≡ 0 → AllByRecursion (λ r. hold_fits r ≡ true) l → AllByRecursion (λ r. fitting d r ≡ true) l
 unasked_fit d l n h =
     all_both (λ r. of_class class.Mode r ≡ false) (λ r. hold_fits r ≡ true) (λ r. fitting d r ≡ true) (λ r e k. simp (e, k)) l (none-tally (of_class class.Mode) l n) h
 
@@ -86,13 +86,13 @@ fits_anywhere d e h = ((λ _. e), against h)
 -- with no mode request waiting
 pub facts_unasked : (s : State) → TripsInTrip s →
     (s.desk.pending ≡ true → (startable s.desk.mode ≡ true) × (is_level s.desk.level Two ≡ true)) →
-    LevelFits s.desk → number_of class.Mode s.waiting ≡ 0 → All (λ r. hold_fits r ≡ true) s.waiting → Queue s.waiting → Facts s
+    LevelFits s.desk → number_of class.Mode s.waiting ≡ 0 → AllByRecursion (λ r. hold_fits r ≡ true) s.waiting → Queue s.waiting → Facts s
 facts_unasked s t p v n h q = (t, (λ e. ((p e).0, (p e).1, n)), v, unasked_fit s.desk s.waiting n h, q.0, q.1, q.2)
 
 -- another mode is entered
 pub facts_entered : (m : Mode) (s : State) → is_mode s.desk.mode m ≡ false →
     (is_mode m Trip ≡ false → number_of class.Trip s.waiting ≡ 0) → s.desk.pending ≡ false → LevelFits (with_mode m s.desk) →
-    All (λ r. hold_fits r ≡ true) s.waiting → Queue s.waiting → Facts (entered m s) × (number_of class.Mode (entered m s).waiting ≡ 0)
+    AllByRecursion (λ r. hold_fits r ≡ true) s.waiting → Queue s.waiting → Facts (entered m s) × (number_of class.Mode (entered m s).waiting ≡ 0)
 facts_entered m s e t p v h q =
     let l = s.waiting in
     let k = filter (not_of_class class.Mode) l in
@@ -111,7 +111,7 @@ facts_moved m s f d t p v = facts_entered m s d (λ _. f.0 t) p v (holds_fit s.d
 -- a request is raised where there is room for it and it is not asked for yet
 pub facts_raised : (c : Class) (n : ℕ) (t : Bool) (s : State) → Facts s →
     (is_mode s.desk.mode Trip ≡ false → eqb (class_number c) 0 ≡ false) → (s.desk.pending ≡ true → eqb (class_number c) 1 ≡ false) →
-    fitting s.desk (request c n t s) ≡ true → number_of c s.waiting < limit c → All (λ x. is_for c n x ≡ false) s.waiting → Facts (raised c n t s)
+    fitting s.desk (request c n t s) ≡ true → number_of c s.waiting < limit c → AllByRecursion (λ x. is_for c n x ≡ false) s.waiting → Facts (raised c n t s)
 facts_raised c n t s f a b g h k =
     let r = request c n t s in
     let l = s.waiting in
@@ -161,7 +161,7 @@ facts_tripped s f e =
     facts_alone class.Trip 0 false (entered Trip s) (facts_left Trip s f e d refl).0 (λ k. against k refl) (λ _. refl) refl n
 
 -- where no hold for 0 waits, no hold waits
-pub no_hold : (l : List Request) → All (λ r. hold_fits r ≡ true) l → waits class.Hold 0 l ≡ false → number_of class.Hold l ≡ 0
+pub no_hold : (l : List Request) → AllByRecursion (λ r. hold_fits r ≡ true) l → waits class.Hold 0 l ≡ false → number_of class.Hold l ≡ 0
 no_hold l h e =
     tally-none (of_class class.Hold) l
     (all_both (λ r. hold_fits r ≡ true) (λ r. is_for class.Hold 0 r ≡ false) (λ r. of_class class.Hold r ≡ false) (λ r a b. grind (arith, nat_tests)) l h (none-some (is_for class.Hold 0) l e))

@@ -1,6 +1,6 @@
 -- Places in no order, and the list in order that they mean.
 use Rattle.std.proofs.Common.{◌≡◌, ℕ, zero, suc, ◌+◌, ◌<◌, Bool, true, false, ◌||◌, List, [], ◌∷◌, ◌++◌, length, get_or, take, set, filter, sym, refl, ap, ◌∙◌, subst, ap₂, inl, inr, arith}
-use Rattle.std.specs.List.{AllByRecursion as All}
+use Rattle.std.specs.List.{AllByRecursion}
 use Rattle.std.proofs.lemmas.List.{take_more, take-set, get_or-take, length-take}
 use Rattle.std.proofs.ByRecursion.{All-get_or}
 use Rattle.std.proofs.lemmas.Bool.{cases_Bool, cases_lt}
@@ -16,7 +16,7 @@ Told lt x y = (lt x y || lt y x) ≡ true
 -- of any two, one is before the other
 abbrev pub AllTold : {X : Type 0} → (X → X → Bool) → List X → Type 0
 AllTold lt [] = Unit {0}
-AllTold lt (x ∷ xs) = All (Told lt x) xs × AllTold lt xs
+AllTold lt (x ∷ xs) = AllByRecursion (Told lt x) xs × AllTold lt xs
 
 take_set_over : {X : Type 0} (xs : List X) (m i : ℕ) (v : X) → take m (set xs i v) ≡ set (take m xs) i v
 take_set_over [] zero i v = refl
@@ -27,26 +27,26 @@ take_set_over (x ∷ xs) (suc m) zero v = refl
 take_set_over (x ∷ xs) (suc m) (suc i) v = ap (λ t. x ∷ t) (take_set_over xs m i v)
 
 module _ {X : Type 0} (lt : X → X → Bool) where
-  all_last : (P : X → Type 0) (xs : List X) (z : X) → All P (xs ++ z ∷ []) → All P xs × P z
+  all_last : (P : X → Type 0) (xs : List X) (z : X) → AllByRecursion P (xs ++ z ∷ []) → AllByRecursion P xs × P z
   all_last P [] z h = (tt, h.0)
   all_last P (x ∷ xs) z h = let k = all_last P xs z h.1 in ((h.0, k.0), k.1)
 
   -- what is told in a list with a last one
-  told_last : (xs : List X) (z : X) → AllTold lt (xs ++ z ∷ []) → AllTold lt xs × All (λ x. Told lt x z) xs
+  told_last : (xs : List X) (z : X) → AllTold lt (xs ++ z ∷ []) → AllTold lt xs × AllByRecursion (λ x. Told lt x z) xs
   told_last [] z h = (tt, tt)
   told_last (x ∷ xs) z h =
       let a = all_last (Told lt x) xs z h.0 in
       let k = told_last xs z h.1 in
       ((a.0, k.0), (a.1, k.1))
 
-  pub all_unput : (P : X → Type 0) (a : X) (l : List X) → All P (put lt a l) → All P l
+  pub all_unput : (P : X → Type 0) (a : X) (l : List X) → AllByRecursion P (put lt a l) → AllByRecursion P l
   all_unput P a [] h = tt
   all_unput P a (b ∷ bs) h = elim (cases_Bool (lt b a)) [
     | inl e ↦ let k = simp e at h in (k.0, all_unput P a bs k.1)
     | inr e ↦ let k = simp e at h in k.1
   ]
 
-  pub all_sorted : (P : X → Type 0) (l : List X) → All P l → All P (sorted lt l)
+  pub all_sorted : (P : X → Type 0) (l : List X) → AllByRecursion P l → AllByRecursion P (sorted lt l)
   all_sorted P [] k = tt
   all_sorted P (x ∷ xs) k = all_put lt P x (sorted lt xs) k.0 (all_sorted P xs k.1)
 
@@ -76,12 +76,12 @@ module _ {X : Type 0} {lt : X → X → Bool} (o : Order lt) where
   ]
 
   -- where all are told from it, the last might as well be first
-  pub sorted_push : (xs : List X) (y : X) → All (λ x. Told lt x y) xs → sorted lt (xs ++ y ∷ []) ≡ put lt y (sorted lt xs)
+  pub sorted_push : (xs : List X) (y : X) → AllByRecursion (λ x. Told lt x y) xs → sorted lt (xs ++ y ∷ []) ≡ put lt y (sorted lt xs)
   sorted_push [] y h = refl
   sorted_push (x ∷ xs) y h = ap (put lt x) (sorted_push xs y h.1) ∙ put_comm o x y h.0 (sorted lt xs)
 
   -- one written over another
-  sorted-set : (xs : List X) (i : ℕ) (z d : X) → i < length xs → AllTold lt xs → All (λ x. Told lt x z) xs →
+  sorted-set : (xs : List X) (i : ℕ) (z d : X) → i < length xs → AllTold lt xs → AllByRecursion (λ x. Told lt x z) xs →
       put lt (get_or xs i d) (sorted lt (set xs i z)) ≡ put lt z (sorted lt xs)
   sorted-set [] i z d h a k = absurd (omega arith)
   sorted-set (x ∷ xs) zero z d h a k = put_comm o x z k.0 (sorted lt xs)
@@ -109,11 +109,11 @@ module _ {X : Type 0} {lt : X → X → Bool} (o : Order lt) where
       ]
 
   -- the one at i, which none is before, and the rest
-  pub first_out : (xs : List X) (m i : ℕ) (d : X) → i < m + 1 → m < length xs → AllTold lt (take (m + 1) xs) → All (λ y. lt y (get_or xs i d) ≡ false) (take (m + 1) xs) →
+  pub first_out : (xs : List X) (m i : ℕ) (d : X) → i < m + 1 → m < length xs → AllTold lt (take (m + 1) xs) → AllByRecursion (λ y. lt y (get_or xs i d) ≡ false) (take (m + 1) xs) →
       sorted lt (take (m + 1) xs) ≡ get_or xs i d ∷ sorted lt (take m (set xs i (get_or xs m d)))
   first_out xs m i d h k a first =
       let x = get_or xs i d in
       let rest = sorted lt (take m (set xs i (get_or xs m d))) in
       let out = taken_out xs m i d h k a in
-      let all : All (λ y. lt y x ≡ false) (put lt x rest) = subst (All (λ y. lt y x ≡ false)) out (all_sorted lt (λ y. lt y x ≡ false) (take (m + 1) xs) first) in
+      let all : AllByRecursion (λ y. lt y x ≡ false) (put lt x rest) = subst (AllByRecursion (λ y. lt y x ≡ false)) out (all_sorted lt (λ y. lt y x ≡ false) (take (m + 1) xs) first) in
       out ∙ put_front lt x rest (all_unput lt (λ y. lt y x ≡ false) x rest all)

@@ -1,6 +1,6 @@
 -- What waits: few of each class, no two for one class and number, in order. Assumes nothing.
 use Rattle.std.proofs.Common.{◌≡◌, ℕ, ◌+◌, ◌<◌, ◌≤◌, Bool, true, false, cond, eqb, List, [], ◌∷◌, filter, inl, inr, arith}
-use Rattle.std.specs.List.{AllByRecursion as All}
+use Rattle.std.specs.List.{AllByRecursion}
 use Rattle.std.proofs.ByRecursion.{all_kept_by, All-weaker}
 use Rattle.std.proofs.lemmas.Bool.{cases_Bool, and_left}
 use Rattle.std.proofs.lemmas.Bool.Decides.{nat_tests}
@@ -32,11 +32,11 @@ some_room class.Hold = omega arith
 some_room class.Text = omega arith
 
 -- where none of a class waits, none is for a number of it
-pub none_for : (c : Class) (n : ℕ) (l : List Request) → number_of c l ≡ 0 → All (λ x. is_for c n x ≡ false) l
+pub none_for : (c : Class) (n : ℕ) (l : List Request) → number_of c l ≡ 0 → AllByRecursion (λ x. is_for c n x ≡ false) l
 none_for c n l h = All-weaker (λ x. of_class c x ≡ false) (λ x. is_for c n x ≡ false) (λ x f. and_left (of_class c x) (eqb x.number n) f) l (none-tally (of_class c) l h)
 
 -- a fresh request leaves no two for the same
-pub apart-put : (r : Request) (l : List Request) → All (λ x. same_request r x ≡ false) l → Apart l → Apart (put before r l)
+pub apart-put : (r : Request) (l : List Request) → AllByRecursion (λ x. same_request r x ≡ false) l → Apart l → Apart (put before r l)
 apart-put r [] h k = (tt, tt)
 apart-put r (x ∷ xs) h k = elim (cases_Bool (before x r)) [
   | inl e ↦ simp e (all_put before (λ y. same_request x y ≡ false) r xs (same_sym r x h.0) k.0, apart-put r xs h.1 k.1)
@@ -87,7 +87,7 @@ abbrev pub Queue : List Request → Type 0
 Queue l = Few l × Rising before l × Apart l
 
 -- a fresh request is put in
-pub queue_put : (r : Request) (l : List Request) → number_of r.class l < limit r.class → All (λ x. same_request r x ≡ false) l → Queue l → Queue (put before r l)
+pub queue_put : (r : Request) (l : List Request) → number_of r.class l < limit r.class → AllByRecursion (λ x. same_request r x ≡ false) l → Queue l → Queue (put before r l)
 queue_put r l h k q = (few_put r l h q.0, rising_put before-order r l q.1, apart-put r l k q.2)
 
 -- a filter

@@ -1,6 +1,6 @@
 -- Three readings of the rules that are ruled out. Assumes nothing.
 use Rattle.std.proofs.Common.{◌≡◌, ℕ, true, false, not, ◌&&◌, ltb, List, [], ◌∷◌, Some, None, Option, sym, refl, ap, ◌∙◌, subst, inl, inr, arith}
-use Rattle.std.specs.List.{AllByRecursion as All}
+use Rattle.std.specs.List.{AllByRecursion}
 use Rattle.std.proofs.lemmas.Bool.{cases_Bool, cond_both, cond-true, both_ways}
 use Rattle.std.proofs.lemmas.Bool.Decides.{nat_tests}
 use Rattle.telegram.specs.Format.{OrderValue.authority}
@@ -103,11 +103,11 @@ moving-keeps-authority reads block s h a =
     cycle-at (refusal (cycle block) s) s (cycle_change (reads block) s) a (cycle-authority (reads block) s h a)
 
 -- the first is before all others
-first-before : (l : List Request) (r : Request) → Rising before l → first_of l ≡ Some r → All (λ x. before x r ≡ false) l
+first-before : (l : List Request) (r : Request) → Rising before l → first_of l ≡ Some r → AllByRecursion (λ x. before x r ≡ false) l
 first-before [] r h e = absurd (some-none r (sym e))
 first-before (x ∷ xs) r h e =
     let same : x ≡ r = cc in
-    subst (λ y. All (λ z. before z y ≡ false) (x ∷ xs)) same (first_least before-order x xs h)
+    subst (λ y. AllByRecursion (λ z. before z y ≡ false) (x ∷ xs)) same (first_least before-order x xs h)
 
 -- what Acknowledge says it ended is the first
 press-ends : (o : Option Refusal) (s : State) (r : Request) → (answer_at o s (press_change 1 s)).acknowledged ≡ Some r → first_of s.waiting ≡ Some r
@@ -117,7 +117,7 @@ press-ends (Some _) s r e = absurd (some-none r (sym e))
 
 -- Acknowledge ends none behind the first
 pub acknowledges-first : (reads : List ℕ → Option ℕ) (s : State) (r : Request) → Facts s → (reply reads (press 1) s).acknowledged ≡ Some r →
-    (first_of s.waiting ≡ Some r) × All (λ x. before x r ≡ false) s.waiting
+    (first_of s.waiting ≡ Some r) × AllByRecursion (λ x. before x r ≡ false) s.waiting
 acknowledges-first reads s r f e =
     let first = press-ends (refusal (press 1) s) s r e in
     (first, first-before s.waiting r f.5 first)

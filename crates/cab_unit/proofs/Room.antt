@@ -1,7 +1,7 @@
 -- Room for what waits, and what the places mean after a change.
 use Rattle.std.proofs.Common.{◌≡◌, ℕ, ◌+◌, ◌-◌, ◌<◌, ◌≤◌, Bool, false, cond, eqb, List, [], ◌∷◌, ◌++◌, length, get_or, take, drop, set, Some, filter, sym, refl, ap, ◌∙◌, subst, inl, inr, arith}
 use native.Mathlib.Nat.{sub-zero}
-use Rattle.std.specs.List.{AllByRecursion as All}
+use Rattle.std.specs.List.{AllByRecursion}
 use Rattle.std.proofs.ByRecursion.{All-weaker, All-from_get_or}
 use Rattle.std.proofs.lemmas.List.{take_more_set, length-take, get_or-take, take-append-le, length-take-le, length-append, length-drop}
 use Rattle.std.proofs.lemmas.Bool.{cases_Bool}
@@ -49,7 +49,7 @@ place-left k n xs h few less = omega (arith, below_limit k (ordered n xs) few le
 pub alone_room : (c : Class) (l : List Request) → number_of c l ≡ 0 → number_of c l < limit c
 alone_room c l h = omega (arith, some_room c)
 
-none_passes : (p : Request → Bool) (l : List Request) → All (λ x. p x ≡ false) l → some p l ≡ false
+none_passes : (p : Request → Bool) (l : List Request) → AllByRecursion (λ x. p x ≡ false) l → some p l ≡ false
 none_passes p [] h = refl
 none_passes p (x ∷ xs) h = let e = h.0 in simp e (none_passes p xs h.1)
 
@@ -58,7 +58,7 @@ pub alone_fresh : (c : Class) (n : ℕ) (l : List Request) → number_of c l ≡
 alone_fresh c n l h = none_passes (is_for c n) l (none_for c n l h)
 
 -- none that waits is for the same as a fresh one
-fresh-apart : (r : Request) (l : List Request) → waits r.class r.number l ≡ false → All (λ x. same_request r x ≡ false) l
+fresh-apart : (r : Request) (l : List Request) → waits r.class r.number l ≡ false → AllByRecursion (λ x. same_request r x ≡ false) l
 fresh-apart r l h = none-some (same_request r) l h
 
 -- a fresh one written behind the others
@@ -100,7 +100,7 @@ single_rest (r ∷ rs) h c n = omega (arith, h c n)
 single_places : (n : ℕ) (xs : List Request) → Single (ordered n xs) → Single (take n xs)
 single_places n xs h c k = omega (arith, h c k, tally-sorted before (is_for c k) (take n xs))
 
-none_before_all : (xs : List Request) (i : ℕ) (d : Request) → NoneBefore before xs (Some i) → All (λ y. before y (get_or xs i d) ≡ false) xs
+none_before_all : (xs : List Request) (i : ℕ) (d : Request) → NoneBefore before xs (Some i) → AllByRecursion (λ y. before y (get_or xs i d) ≡ false) xs
 none_before_all xs i d h = All-from_get_or (λ y. before y (get_or xs i d) ≡ false) xs d (λ k l. h.1 k d l)
 
 chosen_out : (m i : ℕ) (xs : List Request) (d : Request) → m < length xs → Single (ordered (m + 1) xs) → NoneBefore before (take (m + 1) xs) (Some i) →
@@ -109,7 +109,7 @@ chosen_out m i xs d h single f =
     let within : i < m + 1 = omega (arith, f.0, length-take (m + 1) xs) in
     let same = get_or-take (m + 1) xs i d within in
     first_out before-order xs m i d within h (single_told (take (m + 1) xs) (single_places (m + 1) xs single))
-    (subst (λ x. All (λ y. before y x ≡ false) (take (m + 1) xs)) same (none_before_all (take (m + 1) xs) i d f))
+    (subst (λ x. AllByRecursion (λ y. before y x ≡ false) (take (m + 1) xs)) same (none_before_all (take (m + 1) xs) i d f))
 
 -- the chosen one and the rest
 pub first_chosen : (n i : ℕ) (xs : List Request) (d : Request) → n ≤ length xs → Single (ordered n xs) → NoneBefore before (take (n - 0) xs) (Some i) →

@@ -1,6 +1,6 @@
 -- Laws of lists in order: putting in, filtering, counting. Assumes nothing.
 use Rattle.std.proofs.Common.{◌≡◌, suc, ◌+◌, ◌≤◌, Bool, true, false, cond, ◌||◌, List, [], ◌∷◌, length, filter, sym, refl, ap, ◌∙◌, inl, inr, arith}
-use Rattle.std.specs.List.{AllByRecursion as All}
+use Rattle.std.specs.List.{AllByRecursion}
 use Rattle.std.proofs.ByRecursion.{all_kept_by, All-weaker}
 use Rattle.std.proofs.lemmas.Bool.{cases_Bool, both_ways, true≢false}
 use Rattle.cab_unit.specs.Facts.{Rising}
@@ -12,13 +12,13 @@ pub record Order {X : Type 0} (lt : X → X → Bool) : Type 0 where
   pub follows : (a b c : X) → lt a b ≡ false → lt b c ≡ false → lt a c ≡ false
 
 -- two facts of each element, and what follows from them
-pub all_both : {X : Type 0} (P Q R : X → Type 0) → ((x : X) → P x → Q x → R x) → (l : List X) → All P l → All Q l → All R l
+pub all_both : {X : Type 0} (P Q R : X → Type 0) → ((x : X) → P x → Q x → R x) → (l : List X) → AllByRecursion P l → AllByRecursion Q l → AllByRecursion R l
 all_both P Q R f [] h k = tt
 all_both P Q R f (x ∷ xs) h k = (f x h.0 k.0, all_both P Q R f xs h.1 k.1)
 
 module _ {X : Type 0} (lt : X → X → Bool) where
   -- what holds of the new one and of the others holds of all
-  pub all_put : (P : X → Type 0) (a : X) (l : List X) → P a → All P l → All P (put lt a l)
+  pub all_put : (P : X → Type 0) (a : X) (l : List X) → P a → AllByRecursion P l → AllByRecursion P (put lt a l)
   all_put P a [] h k = (h, tt)
   all_put P a (b ∷ bs) h k = elim (cases_Bool (lt b a)) [
     | inl e ↦ simp e (k.0, all_put P a bs h k.1)
@@ -55,7 +55,7 @@ module _ {X : Type 0} (lt : X → X → Bool) where
   ]
 
   -- what nothing is before goes to the front
-  pub put_front : (a : X) (l : List X) → All (λ y. lt y a ≡ false) l → put lt a l ≡ a ∷ l
+  pub put_front : (a : X) (l : List X) → AllByRecursion (λ y. lt y a ≡ false) l → put lt a l ≡ a ∷ l
   put_front a [] h = refl
   put_front a (b ∷ bs) h = let e = h.0 in simp e
 
@@ -69,7 +69,7 @@ module _ {X : Type 0} (lt : X → X → Bool) where
 
 module _ {X : Type 0} {lt : X → X → Bool} (o : Order lt) where
   -- nothing behind what a is not behind is before a
-  pub all_behind : (a b : X) (l : List X) → lt b a ≡ false → All (λ y. lt y b ≡ false) l → All (λ y. lt y a ≡ false) l
+  pub all_behind : (a b : X) (l : List X) → lt b a ≡ false → AllByRecursion (λ y. lt y b ≡ false) l → AllByRecursion (λ y. lt y a ≡ false) l
   all_behind a b l e h = All-weaker (λ y. lt y b ≡ false) (λ y. lt y a ≡ false) (λ y f. o.follows y b a f e) l h
 
   -- nothing is before itself
@@ -77,7 +77,7 @@ module _ {X : Type 0} {lt : X → X → Bool} (o : Order lt) where
   not_itself a = elim (cases_Bool (lt a a)) [ inl e ↦ o.one_way a a e | inr e ↦ e ]
 
   -- none is before the first
-  pub first_least : (a : X) (l : List X) → Rising lt (a ∷ l) → All (λ y. lt y a ≡ false) (a ∷ l)
+  pub first_least : (a : X) (l : List X) → Rising lt (a ∷ l) → AllByRecursion (λ y. lt y a ≡ false) (a ∷ l)
   first_least a l h = (not_itself a, h.0)
 
   -- putting in keeps the order
@@ -128,14 +128,14 @@ module _ {X : Type 0} {lt : X → X → Bool} (o : Order lt) where
       | inr f ↦ simp (e, f) (kept_put p a bs h.1)
     ]
     | inr e ↦
-        let rest : All (λ y. lt y a ≡ false) (b ∷ bs) = (e, all_behind a b bs e h.0) in
+        let rest : AllByRecursion (λ y. lt y a ≡ false) (b ∷ bs) = (e, all_behind a b bs e h.0) in
         let front = put_front lt a (filter p (b ∷ bs)) (all_kept_by p (λ y. lt y a ≡ false) (b ∷ bs) rest) in
         simp e (ap (λ t. cond (p a) t (filter p (b ∷ bs))) (sym front))
   ]
 
 module _ {X : Type 0} (q : X → Bool) where
   -- none passes where the count is 0
-  pub none-tally : (l : List X) → tally q l ≡ 0 → All (λ x. q x ≡ false) l
+  pub none-tally : (l : List X) → tally q l ≡ 0 → AllByRecursion (λ x. q x ≡ false) l
   none-tally [] h = tt
   none-tally (x ∷ xs) h = elim (cases_Bool (q x)) [
     | inl e ↦ let k : 1 + tally q xs ≡ 0 = simp e at h in absurd (omega arith)
@@ -143,12 +143,12 @@ module _ {X : Type 0} (q : X → Bool) where
   ]
 
   -- and the other way
-  pub tally-none : (l : List X) → All (λ x. q x ≡ false) l → tally q l ≡ 0
+  pub tally-none : (l : List X) → AllByRecursion (λ x. q x ≡ false) l → tally q l ≡ 0
   tally-none [] h = refl
   tally-none (x ∷ xs) h = let e = h.0 in simp e (omega (arith, tally-none xs h.1))
 
   -- none passes where not one does
-  pub none-some : (l : List X) → some q l ≡ false → All (λ x. q x ≡ false) l
+  pub none-some : (l : List X) → some q l ≡ false → AllByRecursion (λ x. q x ≡ false) l
   none-some [] h = tt
   none-some (x ∷ xs) h = elim (cases_Bool (q x)) [
     | inl e ↦ absurd (true≢false (simp e at h))

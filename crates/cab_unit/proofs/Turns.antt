@@ -1,6 +1,6 @@
 -- Requests for different classes or numbers have different turns.
 use Rattle.std.proofs.Common.{◌≡◌, ◌+◌, ◌≤◌, false, List, [], ◌∷◌, arith}
-use Rattle.std.specs.List.{AllByRecursion as All}
+use Rattle.std.specs.List.{AllByRecursion}
 use Rattle.std.proofs.ByRecursion.{All-weaker}
 use Rattle.std.proofs.lemmas.Bool.Decides.{nat_tests}
 use Rattle.cab_unit.specs.Facts.{same_request}
@@ -17,7 +17,7 @@ pub told-apart : (a b : Request) → same_request a b ≡ false → Told before 
 told-apart a b h = grind (arith, nat_tests)
 
 -- where one waits at most, the others are for another class or number
-pub single_first : (x : Request) (xs : List Request) → Single (x ∷ xs) → All (λ y. same_request x y ≡ false) xs
+pub single_first : (x : Request) (xs : List Request) → Single (x ∷ xs) → AllByRecursion (λ y. same_request x y ≡ false) xs
 single_first x xs h =
     let e = same_self x in
     let one : 1 + tally (same_request x) xs ≤ 1 = simp e at (h x.class x.number) in

@@ -1,6 +1,6 @@
 -- Facts of every state that calls can reach.
 use Rattle.std.specs.Prelude.{◌≡◌, ◌≤◌, Bool, true, false, cond, not, ◌&&◌, ◌||◌, List, [], ◌∷◌, ◌==◌}
-use Rattle.std.specs.List.{AllByRecursion as All}
+use Rattle.std.specs.List.{AllByRecursion}
 use Rattle.telegram.specs.declared.modes.Mode.{Mode}
 use Rattle.telegram.specs.declared.modes.Mode.TheVariants.{Standby, Shunting, Unfitted, Trip, SystemFailure}
 use Rattle.cab_unit.specs.Buttons.{startable}
@@ -15,7 +15,7 @@ use Rattle.driver_desk.specs.declared.request.Request.{Request}
 -- no later one is before an earlier one
 abbrev pub Rising : {X : Type 0} → (X → X → Bool) → List X → Type 0
 Rising lt [] = Unit {0}
-Rising lt (x ∷ xs) = All (λ y. lt y x ≡ false) xs × Rising lt xs
+Rising lt (x ∷ xs) = AllByRecursion (λ y. lt y x ≡ false) xs × Rising lt xs
 
 -- the same class and number
 abbrev pub same_request : Request → Request → Bool
@@ -24,7 +24,7 @@ same_request r x = is_for r.class r.number x
 -- at most one request for each class and number
 abbrev pub Apart : List Request → Type 0
 Apart [] = Unit {0}
-Apart (r ∷ rs) = All (λ x. same_request r x ≡ false) rs × Apart rs
+Apart (r ∷ rs) = AllByRecursion (λ x. same_request r x ≡ false) rs × Apart rs
 
 -- at most twelve texts, and at most one of each other class
 abbrev pub Few : List Request → Type 0
@@ -60,7 +60,7 @@ Facts s =
     TripsInTrip s
     × StartsPend s
     × LevelFits s.desk
-    × All (λ r. fitting s.desk r ≡ true) s.waiting
+    × AllByRecursion (λ r. fitting s.desk r ≡ true) s.waiting
     × Few s.waiting
     × Rising before s.waiting
     × Apart s.waiting

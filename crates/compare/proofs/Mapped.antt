@@ -1,6 +1,6 @@
 -- Lists that are equal once mapped, place by place.
 use Rattle.std.proofs.Common.{◌≡◌, ℕ, ◌+◌, ◌<◌, ◌≤◌, List, [], ◌∷◌, ◌++◌, map, length, get_or, take, sym, ap, ◌∙◌, subst, ap₂}
-use Rattle.std.specs.List.{AllByRecursion as All}
+use Rattle.std.specs.List.{AllByRecursion}
 use Rattle.std.proofs.ByRecursion.{All-get_or}
 use Rattle.std.proofs.lemmas.List.{length-map, get_or-map, map_more, take_all}
 
@@ -23,5 +23,5 @@ module _ {X Y : Type 0} (f : X → Y) (xs ys : List X) where
   same_past i h k p = sym (ap (map f) (take_all i xs h)) ∙ p ∙ ap (map f) (take_all i ys k)
 
 -- what holds of each, once mapped, holds at a place
-pub all_place : {X Y : Type 0} (P : Y → Type 0) (f : X → Y) (xs : List X) (i : ℕ) (d : X) → i < length xs → All P (map f xs) → P (f (get_or xs i d))
+pub all_place : {X Y : Type 0} (P : Y → Type 0) (f : X → Y) (xs : List X) (i : ℕ) (d : X) → i < length xs → AllByRecursion P (map f xs) → P (f (get_or xs i d))
 all_place P f xs i d h a = subst P (get_or-map f xs i d (f d) h) (All-get_or P (map f xs) i (f d) (subst (λ n. i < n) (sym (length-map xs f)) h) a)

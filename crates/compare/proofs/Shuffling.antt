@@ -1,7 +1,7 @@
 -- Lists with the same elements: what a sort leaves, and that two sorted ones are equal.
 use Rattle.std.proofs.Common.{◌≡◌, ℕ, zero, suc, ◌+◌, ◌<◌, ◌≤◌, Bool, true, false, cond, List, [], ◌∷◌, map, length, get_or, set, sym, refl, ap, ◌∙◌, ap₂, arith}
 use Rattle.std.specs.List.Sorted.{IsPermutation}
-use Rattle.std.specs.List.{swap as exchanged, AllByRecursion as All}
+use Rattle.std.specs.List.{swap as exchanged, AllByRecursion}
 use Rattle.std.proofs.ByRecursion.{All-from_get_or, All-map}
 use Rattle.std.proofs.lemmas.List.Sorted.{IsPermutation-keeps}
 use Rattle.driver_desk.specs.Sorting.{tally}
@@ -69,7 +69,7 @@ shuffle_map f (both s t) = both (shuffle_map f s) (shuffle_map f t)
 -- none after another is less than it
 abbrev pub Low : {X : Type 0} → (X → X → Bool) → List X → Type 0
 Low lt [] = Unit {0}
-Low lt (x ∷ xs) = All (λ z. lt z x ≡ false) xs × Low lt xs
+Low lt (x ∷ xs) = AllByRecursion (λ z. lt z x ≡ false) xs × Low lt xs
 
 -- from what a sort says, place by place
 pub low_from_far : {X : Type 0} (lt : X → X → Bool) (xs : List X) → ((i j : ℕ) (d : X) → i ≤ j → j < length xs → lt (get_or xs j d) (get_or xs i d) ≡ false) → Low lt xs
@@ -83,7 +83,7 @@ low_map f lt [] l = tt
 low_map f lt (x ∷ xs) l = (All-map (λ z. lt z (f x) ≡ false) f xs l.0, low_map f lt xs l.1)
 
 -- where each fails a test, none is counted
-none_pass : {X : Type 0} (p : X → Bool) (xs : List X) → All (λ z. p z ≡ false) xs → tally p xs ≡ 0
+none_pass : {X : Type 0} (p : X → Bool) (xs : List X) → AllByRecursion (λ z. p z ≡ false) xs → tally p xs ≡ 0
 none_pass p [] a = refl
 none_pass p (x ∷ xs) a = ap₂ (λ b n. cond b 1 0 + n) a.0 (none_pass p xs a.1)
 

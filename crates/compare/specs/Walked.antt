@@ -1,17 +1,17 @@
 -- When two lists of calls, with their answers, are the same up to blocks and the order of neighbouring texts,
 -- and which calls lie in a stretch that came in another order.
 use Rattle.std.specs.Prelude.{◌≡◌, ℕ, ◌<◌, ◌≤◌, min, Bool, true, false, ◌&&◌, ◌||◌, List, [], ◌∷◌, ◌++◌, length, take, drop, replicate, None, Decides, ◌≢◌}
-use Rattle.std.specs.List.{AllByRecursion as All}
+use Rattle.std.specs.List.{AllByRecursion}
 use Rattle.cab_unit.specs.Events.{Event}
 use Rattle.driver_desk.specs.declared.answer.Answer.{Answer}
 use Rattle.compare.specs.Asked.{unblocked}
 use Rattle.bench.specs.Likeness.{Shuffle, is_text}
 
 abbrev pub Texts : List Event → Type 0
-Texts es = All (λ e. is_text e ≡ true) es
+Texts es = AllByRecursion (λ e. is_text e ≡ true) es
 
 abbrev pub Accepted : List Answer → Type 0
-Accepted as' = All (λ a. a.outcome ≡ None) as'
+Accepted as' = AllByRecursion (λ a. a.outcome ≡ None) as'
 
 -- the list goes on with a text
 abbrev pub text_next : List Event → Bool

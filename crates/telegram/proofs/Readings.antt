@@ -1,6 +1,6 @@
 -- Whole telegrams: what is read of one is its bytes, order by order.
 use Rattle.std.proofs.Common.{◌≡◌, ℕ, zero, suc, ◌+◌, ◌-◌, ◌*◌, ◌/◌, ◌%◌, ◌<◌, ◌≤◌, leb, List, [], ◌∷◌, ◌++◌, map, length, take, drop, Some, None, Ok, Err, Option, Result, sym, refl, ap, ◌∙◌, subst, arith}
-use Rattle.std.specs.List.{flat_map, AllByRecursion as All}
+use Rattle.std.specs.List.{flat_map, AllByRecursion}
 use Rattle.std.proofs.lemmas.List.{length-take, length-drop, take-append-drop, drop-drop, drop_at, map_push, append_assoc, append-nil}
 use Rattle.std.proofs.lemmas.Bool.{cond_both}
 use Rattle.telegram.specs.Kinds.{kind_numbered, takes_length}
@@ -86,7 +86,7 @@ reads_only t p os qs e f (read {after = a} {os = os'} h r) (read {after = b} {os
 
 -- What is read to the end, from a place on, is the rest of the telegram.
 pub whole_only : (t : List ℕ) (p : ℕ) (os : List PlacedValue) (e : Ending) → Reads t p os e → Faultless e →
-    All InLists (map (λ x. x.what) os) × (flat_map bytes_of (map (λ x. x.what) os) ≡ drop p t)
+    AllByRecursion InLists (map (λ x. x.what) os) × (flat_map bytes_of (map (λ x. x.what) os) ≡ drop p t)
 whole_only t p os e (ended {q = q} h) k = (tt, sym (left_end p (drop p t) q h).0)
 whole_only t p os e (refused h) k = absurd k
 whole_only t p os e (read {first = first} {after = after} {o = o} {os = os'} h r) k =
@@ -95,7 +95,7 @@ whole_only t p os e (read {first = first} {after = after} {o = o} {os = os'} h r
     ((s.0, rest.0), ap (λ (x : List ℕ). bytes_of o ++ x) rest.1 ∙ order-then t p o first after h)
 
 -- The bytes of orders, their fields in their lists, are read as those orders, to the end.
-pub whole_back : (t : List ℕ) (p : ℕ) (os : List OrderValue) → All InLists os → flat_map bytes_of os ≡ drop p t →
+pub whole_back : (t : List ℕ) (p : ℕ) (os : List OrderValue) → AllByRecursion InLists os → flat_map bytes_of os ≡ drop p t →
     (placed : List PlacedValue) × (e : Ending) × Reads t p placed e × Faultless e × (map (λ x. x.what) placed ≡ os)
 whole_back t p [] all h = ([], End p, ended (ap (read_left p) (sym h)), tt, refl)
 whole_back t p (o ∷ os) all h =
@@ -114,7 +114,7 @@ whole-telegram t placed e r os = (
       (subst Faultless same.1 w.3, ap (map (λ (x : PlacedValue). x.what)) (sym same.0) ∙ w.4),
   λ h.
       let w = whole_only t 0 placed e r h.0 in
-      (subst (All InLists) h.1 w.0, ap (flat_map bytes_of) (sym h.1) ∙ w.1),
+      (subst (AllByRecursion InLists) h.1 w.0, ap (flat_map bytes_of) (sym h.1) ∙ w.1),
 )
 
 -- A reading from a place in the telegram ends in it.

@@ -1,6 +1,6 @@
 -- A whole telegram, read to its end or to the first refusal.
 use Rattle.std.specs.Prelude.{◌≡◌, ℕ, zero, suc, ◌<◌, Bool, true, false, List, [], ◌∷◌, map, length, vec_items}
-use Rattle.std.specs.List.{flat_map, AllByRecursion as All}
+use Rattle.std.specs.List.{flat_map, AllByRecursion}
 use Rattle.telegram.specs.Format.{OrderValue, value_of, InLists, bytes_of}
 use Rattle.telegram.specs.Reading.{ReadValue, ReadValue.order, ReadValue.end, ReadValue.fault, read_at}
 use Rattle.telegram.specs.Laws.{ExactlyWhen}
@@ -52,7 +52,7 @@ Faultless (FaultAt f first) = ⊥
 -- exactly when the reading ends without a fault and these are the orders read.
 abbrev pub WholeTelegram : List ℕ → WholeValue → Type 0
 WholeTelegram t w = (os : List OrderValue) →
-    ExactlyWhen (All InLists os × (flat_map bytes_of os ≡ t)) (Faultless w.ending × (map (λ p. p.what) w.orders ≡ os))
+    ExactlyWhen (AllByRecursion InLists os × (flat_map bytes_of os ≡ t)) (Faultless w.ending × (map (λ p. p.what) w.orders ≡ os))
 
 -- The end is the telegram's length, and a refused order begins before it.
 abbrev pub EndsWithin : List ℕ → Ending → Type 0
