@@ -1,5 +1,5 @@
 -- Words counted off one by one.
-use Rattle.std.proofs.Common.{◌≡◌, ℕ, suc, ◌+◌, ◌-◌, ◌<◌, Bool, true, false, cond, List, Some, Option, sym, ap, ◌∙◌, arith}
+use Rattle.std.proofs.Common.{◌≡◌, ℕ, suc, ◌+◌, ◌-◌, ◌<◌, true, false, cond, List, Some, Option, sym, ap, ◌∙◌, arith}
 use Rattle.call_list.specs.Words.{word_of, after_word, is_empty, count_fault}
 use Rattle.call_list.specs.declared.entry.Wrong.{Wrong}
 use Rattle.call_list.specs.declared.entry.Wrong.TheVariants.{MissingWord}

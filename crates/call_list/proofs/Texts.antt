@@ -1,10 +1,10 @@
 -- A text line by line, and the calls kept so far.
-use Rattle.std.proofs.Common.{◌≡◌, ℕ, suc, ◌+◌, ◌<◌, Bool, true, false, cond, ◌&&◌, ◌||◌, List, [], ◌∷◌, ◌++◌, map, length, take, drop, Ok, Err, Result, sym, refl, ap, ◌∙◌, subst, inl, inr, append_assoc, append-nil, arith, length-drop}
+use Rattle.std.proofs.Common.{◌≡◌, ℕ, suc, ◌+◌, ◌<◌, Bool, true, false, ◌&&◌, ◌||◌, List, [], ◌∷◌, ◌++◌, map, length, Ok, Err, Result, sym, refl, ap, ◌∙◌, subst, inl, inr, append_assoc, append-nil, arith, length-drop}
 use Rattle.std.proofs.lemmas.Bool.{cases_Bool, or_left, or_right}
 use Rattle.std.proofs.lemmas.List.{map_push, nil_from_length}
 use Rattle.call_list.specs.Words.{is_break, place_of, word_of}
 use Rattle.call_list.specs.Lines.{LineValue, passed, cycle, telegram, press, draft, order, wrong, verb_of, line_of, value_of, has_bytes}
-use Rattle.call_list.specs.Lists.{on_first, lines_of, first_line, after_line, ListValue, calls, bad_line, behind, with_line, list_from, list_of, located, is_call, is_passed, takes_memory, may_want, Kept, Noted, ReadsList}
+use Rattle.call_list.specs.Lists.{on_first, lines_of, first_line, after_line, ListValue, calls, bad_line, behind, with_line, list_from, list_of, located, is_call, is_passed, takes_memory, may_want, Kept, Noted, NotedOrWantsMemory, ReadsList, ReadsListOrWantsMemory}
 use Rattle.call_list.specs.declared.entry.Entry.{Entry}
 use Rattle.call_list.specs.declared.entry.Entry.TheVariants.{Cycle, Telegram, Press, Record, Order}
 use Rattle.call_list.specs.declared.entry.Wrong.{Wrong}
@@ -44,15 +44,22 @@ entry-call (Press b) = refl
 entry-call (Record driver length percentage speed) = refl
 entry-call (Order o) = refl
 
-pub kept_noted : (one : Listed) (line : List ℕ) (before after : List Listed) (r : Result Unit ListFault) →
-    line_of line ≡ value_of one.entry → Kept one before after r → Noted one.line line before after r
-kept_noted one line before after (Ok done) e kept = λ rest.
+pub kept_noted : (one : Listed) (value : LineValue) (before after : List Listed) (r : Result Unit ListFault) →
+    value ≡ value_of one.entry → Kept one before after r → Noted one.line value before after r
+kept_noted one value before after (Ok done) e kept = λ rest.
     ap (λ xs. behind (map located xs) rest) kept
     ∙ ap (λ xs. behind xs rest) (map_push located before one)
     ∙ behind-behind (map located before) (located one ∷ []) rest
     ∙ ap (behind (map located before)) (sym (entry-line one.line one.entry rest) ∙ ap (λ v. with_line one.line v rest) (sym e))
-kept_noted one line before after (Err (Line m w)) e kept = absurd kept
-kept_noted one line before after (Err NoMemory) e kept = or_right (has_bytes (verb_of (word_of line))) _ (ap is_call e ∙ entry-call one.entry)
+kept_noted one value before after (Err (Line m w)) e kept = absurd kept
+kept_noted one value before after (Err NoMemory) e kept = tt
+
+-- a call that is kept takes memory
+pub kept_or_wants : (one : Listed) (line : List ℕ) (before after : List Listed) (r : Result Unit ListFault) →
+    line_of line ≡ value_of one.entry → Kept one before after r → NotedOrWantsMemory one.line line before after r
+kept_or_wants one line before after (Ok done) e kept = kept_noted one (line_of line) before after (Ok done) e kept
+kept_or_wants one line before after (Err (Line m w)) e kept = absurd kept
+kept_or_wants one line before after (Err NoMemory) e kept = or_right (has_bytes (verb_of (word_of line))) _ (ap is_call e ∙ entry-call one.entry)
 
 -- a list of calls is no bad line
 abbrev HasCalls : ListValue → Type 0
@@ -80,7 +87,7 @@ or_more false y z e = e
 
 -- where the lines left may want memory, so may these and the line before them
 pub want_more : (text : List ℕ) (n : ℕ) (before after : List Listed) (line rest : List ℕ) (done : Unit) →
-    0 < length text → line ≡ first_line text → rest ≡ after_line text → Noted n line before after (Ok done) →
+    0 < length text → line ≡ first_line text → rest ≡ after_line text → Noted n (line_of line) before after (Ok done) →
     may_want (lines_of rest) ≡ true → may_want (lines_of text) ≡ true
 want_more text n before after line rest done l e f noted h =
     ap may_want (lines_split text l ∙ ap (λ x. x ∷ lines_of (after_line text)) (sym e) ∙ ap (λ x. line ∷ lines_of x) (sym f))
@@ -97,7 +104,7 @@ module _ (kept : List Listed) (n : ℕ) (text source : List ℕ) (inv : behind (
   step l = sym (ap (λ ls. behind (map located kept) (list_from n ls)) (lines_split text l)) ∙ inv
 
   pub list_more : (more : List Listed) (line rest : List ℕ) (done : Unit) → 0 < length text → line ≡ first_line text → rest ≡ after_line text →
-      Noted n line kept more (Ok done) → behind (map located more) (list_from (n + 1) (lines_of rest)) ≡ list_of source
+      Noted n (line_of line) kept more (Ok done) → behind (map located more) (list_from (n + 1) (lines_of rest)) ≡ list_of source
   list_more more line rest done l e f noted =
       noted (list_from (n + 1) (lines_of rest))
       ∙ ap (λ x. behind (map located kept) (with_line n (line_of x) (list_from (n + 1) (lines_of rest)))) e
@@ -105,12 +112,17 @@ module _ (kept : List Listed) (n : ℕ) (text source : List ℕ) (inv : behind (
       ∙ step l
 
   pub list_bad : (more : List Listed) (line : List ℕ) (fault : ListFault) → 0 < length text → line ≡ first_line text →
-      (may_want (lines_of text) ≡ true → may_want (lines_of source) ≡ true) →
-      Noted n line kept more (Err fault) → ReadsList source (Err fault)
-  list_bad more line (Line m w) l e want noted =
+      Noted n (line_of line) kept more (Err fault) → ReadsList source (Err fault)
+  list_bad more line (Line m w) l e noted =
       sym (step l) ∙ ap (λ v. behind (map located kept) (with_line n v (list_from (n + 1) (lines_of (after_line text))))) (ap line_of (sym e) ∙ noted.1)
       ∙ ap (λ k. bad_line k w) (sym noted.0)
-  list_bad more line NoMemory l e want noted = want (want_here text line l e noted)
+  list_bad more line NoMemory l e noted = tt
+
+  pub list_wants : (more : List Listed) (line : List ℕ) (fault : ListFault) → 0 < length text → line ≡ first_line text →
+      (may_want (lines_of text) ≡ true → may_want (lines_of source) ≡ true) →
+      NotedOrWantsMemory n line kept more (Err fault) → ReadsListOrWantsMemory source (Err fault)
+  list_wants more line (Line m w) l e want noted = list_bad more line (Line m w) l e noted
+  list_wants more line NoMemory l e want noted = want (want_here text line l e noted)
 
   pub list_end : length text ≡ 0 → list_of source ≡ calls (map located kept)
   list_end l =

@@ -107,10 +107,23 @@ Reads value (Ok entry) = value ≡ value_of entry
 Reads value (Err (Bad w)) = value ≡ wrong w
 Reads value (Err NoMemory) = Unit {0}
 
--- the same of a line that has no bytes: memory is not wanting there
-abbrev pub ReadsEntry : LineValue → Result Entry Wrong → Type 0
+abbrev pub ReadsLine : LineValue → Result (Option Entry) LineFault → Type 0
+ReadsLine value (Ok None) = value ≡ passed
+ReadsLine value (Ok (Some entry)) = value ≡ value_of entry
+ReadsLine value (Err (Bad w)) = value ≡ wrong w
+ReadsLine value (Err NoMemory) = Unit {0}
+
+-- the same of bytes, in a container whose contents `items` tells
+abbrev pub ReadsBytes : {V : Type 0} → (V → List ℕ) → Option (List ℕ) → Result V LineFault → Type 0
+ReadsBytes items value (Ok bytes) = value ≡ Some (items bytes)
+ReadsBytes items value (Err (Bad w)) = (value ≡ None) × (w ≡ NotHexadecimal)
+ReadsBytes items value (Err NoMemory) = Unit {0}
+
+-- an entry is read from a line that has no bytes: memory is not wanting there
+abbrev pub ReadsEntry : LineValue → Result Entry LineFault → Type 0
 ReadsEntry value (Ok entry) = value ≡ value_of entry
-ReadsEntry value (Err w) = value ≡ wrong w
+ReadsEntry value (Err (Bad w)) = value ≡ wrong w
+ReadsEntry value (Err NoMemory) = ⊥
 
 -- the calls that have bytes, which take memory
 abbrev pub has_bytes : Verb → Bool
@@ -122,14 +135,9 @@ has_bytes verbs.Record = false
 has_bytes verbs.Order = false
 has_bytes verbs.Unknown = false
 
-abbrev pub ReadsLine : List ℕ → Result (Option Entry) LineFault → Type 0
-ReadsLine line (Ok None) = line_of line ≡ passed
-ReadsLine line (Ok (Some entry)) = line_of line ≡ value_of entry
-ReadsLine line (Err (Bad w)) = line_of line ≡ wrong w
-ReadsLine line (Err NoMemory) = has_bytes (verb_of (word_of line)) ≡ true
-
--- the same of bytes, in a container whose contents `items` tells
-abbrev pub ReadsBytes : {V : Type 0} → (V → List ℕ) → Option (List ℕ) → Result V LineFault → Type 0
-ReadsBytes items value (Ok bytes) = value ≡ Some (items bytes)
-ReadsBytes items value (Err (Bad w)) = (value ≡ None) × (w ≡ NotHexadecimal)
-ReadsBytes items value (Err NoMemory) = Unit {0}
+-- a line is read, and memory is wanting only where its call has bytes
+abbrev pub ReadsLineOrWantsMemory : List ℕ → Result (Option Entry) LineFault → Type 0
+ReadsLineOrWantsMemory line (Ok None) = line_of line ≡ passed
+ReadsLineOrWantsMemory line (Ok (Some entry)) = line_of line ≡ value_of entry
+ReadsLineOrWantsMemory line (Err (Bad w)) = line_of line ≡ wrong w
+ReadsLineOrWantsMemory line (Err NoMemory) = has_bytes (verb_of (word_of line)) ≡ true

@@ -59,6 +59,18 @@ Kept one before after (Ok done) = after ≡ before ++ one ∷ []
 Kept one before after (Err (Line m w)) = ⊥
 Kept one before after (Err NoMemory) = Unit {0}
 
+-- the line with the number n is read, and its call kept behind those before it
+abbrev pub Noted : ℕ → LineValue → List Listed → List Listed → Result Unit ListFault → Type 0
+Noted n value before after (Ok done) = (rest : ListValue) → behind (map located after) rest ≡ behind (map located before) (with_line n value rest)
+Noted n value before after (Err (Line m w)) = (m ≡ n) × (value ≡ wrong w)
+Noted n value before after (Err NoMemory) = Unit {0}
+
+-- a list is read, or its first bad line is named; want of memory says nothing of it
+abbrev pub ReadsList : List ℕ → Result (Vec Listed Global) ListFault → Type 0
+ReadsList text (Ok listed) = list_of text ≡ calls (map located (vec_items listed))
+ReadsList text (Err (Line n w)) = list_of text ≡ bad_line n w
+ReadsList text (Err NoMemory) = Unit {0}
+
 -- a line that asks for a call
 abbrev pub is_call : LineValue → Bool
 is_call passed = false
@@ -87,14 +99,14 @@ abbrev pub may_want : List (List ℕ) → Bool
 may_want [] = false
 may_want (line ∷ lines) = takes_memory line || (is_passed (line_of line) && may_want lines)
 
--- the line with the number n is read, and its call kept behind those before it
-abbrev pub Noted : ℕ → List ℕ → List Listed → List Listed → Result Unit ListFault → Type 0
-Noted n line before after (Ok done) = (rest : ListValue) → behind (map located after) rest ≡ behind (map located before) (with_line n (line_of line) rest)
-Noted n line before after (Err (Line m w)) = (m ≡ n) × (line_of line ≡ wrong w)
-Noted n line before after (Err NoMemory) = takes_memory line ≡ true
+-- the line with the number n is noted, and memory is wanting only where the line takes some
+abbrev pub NotedOrWantsMemory : ℕ → List ℕ → List Listed → List Listed → Result Unit ListFault → Type 0
+NotedOrWantsMemory n line before after (Ok done) = (rest : ListValue) → behind (map located after) rest ≡ behind (map located before) (with_line n (line_of line) rest)
+NotedOrWantsMemory n line before after (Err (Line m w)) = (m ≡ n) × (line_of line ≡ wrong w)
+NotedOrWantsMemory n line before after (Err NoMemory) = takes_memory line ≡ true
 
 -- a list is read, or its first bad line is named; memory is wanting only where the first line that asks for something takes some
-abbrev pub ReadsList : List ℕ → Result (Vec Listed Global) ListFault → Type 0
-ReadsList text (Ok listed) = list_of text ≡ calls (map located (vec_items listed))
-ReadsList text (Err (Line n w)) = list_of text ≡ bad_line n w
-ReadsList text (Err NoMemory) = may_want (lines_of text) ≡ true
+abbrev pub ReadsListOrWantsMemory : List ℕ → Result (Vec Listed Global) ListFault → Type 0
+ReadsListOrWantsMemory text (Ok listed) = list_of text ≡ calls (map located (vec_items listed))
+ReadsListOrWantsMemory text (Err (Line n w)) = list_of text ≡ bad_line n w
+ReadsListOrWantsMemory text (Err NoMemory) = may_want (lines_of text) ≡ true

@@ -1,4 +1,6 @@
 // A call list is a text with one call to a line; here it is read, or refused at its first bad line.
+#![tactic(auto)]
+
 mod entry;
 mod hex;
 mod line;

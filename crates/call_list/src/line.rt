@@ -1,6 +1,6 @@
 ghost use Rattle.std.specs.Prelude.{◌≡◌, vec_items};
 ghost use Rattle.call_list.specs.Hex.{hex_bytes};
-ghost use Rattle.call_list.specs.Lines.{verb_of, cycle_line, telegram_line, press_line, record_line, order_line, Reads, ReadsEntry, ReadsLine, ReadsBytes};
+ghost use Rattle.call_list.specs.Lines.{verb_of, cycle_line, telegram_line, press_line, record_line, order_line, line_of, Reads, ReadsEntry, ReadsLine, ReadsLineOrWantsMemory, ReadsBytes};
 
 use crate::entry::{Entry, LineFault, Wrong};
 use crate::hex::decode;
@@ -77,21 +77,23 @@ fn read_telegram(heap: Global, rest: &[u8]) -> Result<Entry, LineFault>
     Ok(Entry::Telegram(bytes))
 }
 
-fn read_press(rest: &[u8]) -> Result<Entry, Wrong>
-    ensures { ReadsEntry (press_line rest.now) result }
+fn read_press(rest: &[u8]) -> Result<Entry, LineFault>
+    ensures reads { Reads (press_line rest.now) result }
+    ensures entry { ReadsEntry (press_line rest.now) result }
 {
     if let Some(wrong) = count_fault(rest, 1) {
-        return Err(wrong);
+        return Err(LineFault::Bad(wrong));
     }
     let button = byte_wanted(first_word(rest))?;
     Ok(Entry::Press(button))
 }
 
-fn read_record(rest: &[u8]) -> Result<Entry, Wrong>
-    ensures { ReadsEntry (record_line rest.now) result }
+fn read_record(rest: &[u8]) -> Result<Entry, LineFault>
+    ensures reads { Reads (record_line rest.now) result }
+    ensures entry { ReadsEntry (record_line rest.now) result }
 {
     if let Some(wrong) = count_fault(rest, 4) {
-        return Err(wrong);
+        return Err(LineFault::Bad(wrong));
     }
     let second = after_word(rest);
     let third = after_word(second);
@@ -108,8 +110,9 @@ fn read_record(rest: &[u8]) -> Result<Entry, Wrong>
     })
 }
 
-fn read_order(rest: &[u8]) -> Result<Entry, Wrong>
-    ensures { ReadsEntry (order_line rest.now) result }
+fn read_order(rest: &[u8]) -> Result<Entry, LineFault>
+    ensures reads { Reads (order_line rest.now) result }
+    ensures entry { ReadsEntry (order_line rest.now) result }
 {
     let order = order_of(rest)?;
     Ok(Entry::Order(order))
@@ -117,7 +120,8 @@ fn read_order(rest: &[u8]) -> Result<Entry, Wrong>
 
 // What a line asks for; none where it is blank or a comment.
 pub(crate) fn read_line(heap: Global, line: &[u8]) -> Result<Option<Entry>, LineFault>
-    ensures { ReadsLine line.now result }
+    ensures reads { ReadsLine (line_of line.now) result }
+    ensures value { ReadsLineOrWantsMemory line.now result }
 {
     let rest = after_word(line);
     match verb_of(first_word(line)) {

@@ -1,5 +1,6 @@
 ghost use Rattle.std.specs.Prelude.{◌≡◌};
-ghost use Rattle.call_list.specs.Lists.{first_line, after_line, Kept, Noted, ReadsList};
+ghost use Rattle.call_list.specs.Lines.{line_of};
+ghost use Rattle.call_list.specs.Lists.{first_line, after_line, Kept, Noted, NotedOrWantsMemory, ReadsList, ReadsListOrWantsMemory};
 ghost use Rattle.call_list.specs.Modes.{EveryModeIsNamed};
 
 use crate::entry::LineFault;
@@ -42,7 +43,8 @@ fn note_line(
     number: usize,
     line: &[u8],
 ) -> Result<(), ListFault>
-    ensures { Noted number line.now listed.old.items listed.new.items result }
+    ensures noted { Noted number (line_of line.now) listed.old.items listed.new.items result }
+    ensures value { NotedOrWantsMemory number line.now listed.old.items listed.new.items result }
 {
     match read_line(heap, line) {
         Ok(None) => Ok(()),
@@ -63,7 +65,8 @@ fn note_line(
 
 // The calls of a list with the numbers of their lines, from 1, or its first bad line.
 pub fn read_list(heap: Global, text: &[u8]) -> Result<Vec<Listed>, ListFault>
-    ensures value { ReadsList text.now result }
+    ensures reads { ReadsList text.now result }
+    ensures value { ReadsListOrWantsMemory text.now result }
     ensures names { EveryModeIsNamed }
 {
     let mut listed = Vec::new(heap);

@@ -121,9 +121,9 @@ fn good_lines(rt: HostRuntime) -> Result<(), Fail> {
     assert_eq!(rt; (listed[0].line, listed[1].line), (3, 4));
     match (&listed[0].entry, &listed[1].entry) {
         (Entry::Cycle { bus, pulse }, Entry::Telegram(bytes)) => {
-            assert_eq!(rt; bus.as_slice(), &[0x80, 0xff]);
+            assert_eq!(rt; bus.as_slice(), [0x80, 0xff].as_slice());
             assert_eq!(rt; pulse.len(), 0);
-            assert_eq!(rt; bytes.as_slice(), &[0x60, 0x02]);
+            assert_eq!(rt; bytes.as_slice(), [0x60, 0x02].as_slice());
             Ok(())
         }
         _ => Err(Fail::new("other calls than were written")),

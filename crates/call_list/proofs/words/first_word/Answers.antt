@@ -1,4 +1,3 @@
-use Rattle.std.proofs.Common.{rules}
 use native.Mathlib.Nat.{sub-zero}
 use Rattle.call_list.proofs.words.first_word.Goals as goal
 
