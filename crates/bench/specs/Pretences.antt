@@ -76,7 +76,7 @@ NotByTheBook =
     × (FairAt None (order sign) (answered None (Some text7) 0) new_book → ⊥)
     × (FairAt (Some NotHeard) (order sign) (answered (Some NotHeard) None 1) new_book → ⊥)
 
--- On Sight, Limited Supervision, Staff Responsible and Unfitted with the line released after 51 cycles, confirmed never or twice
+-- On Sight, Limited Supervision, Staff Responsible and Unfitted with the line released after 51 cycles, confirmed never, or On Sight twice
 abbrev pub NotConfirmedOnce : Type 0
 NotConfirmedOnce =
     (Confirmed (stood51 OnSight 0) (standing OnSight One [] Released) → ⊥)
