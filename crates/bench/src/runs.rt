@@ -33,7 +33,7 @@ fn refuse_draft<E: TrainEnd>(unit: &Unit<E>, refusal: Refusal) -> Answer
     ensures { result ≡ answering (Some (if failed (view E.speed_of E.line_of unit.now) then InSystemFailure else refusal)) None None 0 (view E.speed_of E.line_of unit.now) }
 {
     let mut answer = unit.answer();
-    answer.outcome = Some(if answer.mode.code() == Mode::SystemFailure.code() {
+    answer.outcome = Some(if answer.mode == Mode::SystemFailure {
         Refusal::InSystemFailure
     } else {
         refusal
@@ -55,10 +55,7 @@ fn take_record<E: TrainEnd>(unit: &mut Unit<E>, train: TrainRecord) -> Answer
     match draft {
         Ok(draft) => match unit.take(draft.yes()) {
             Ok(answer) => answer,
-            Err(refused) => {
-                let (answer, _confirmed) = refused;
-                answer
-            }
+            Err((answer, _)) => answer,
         },
         Err(refusal) => refuse_draft(unit, refusal),
     }
@@ -83,8 +80,8 @@ fn run_into<E: TrainEnd>(unit: &mut Unit<E>, calls: &[Call<'_>], answers: &mut [
     ensures state { view E.speed_of E.line_of unit.new ≡ after E.reading (map said calls.now) (view E.speed_of E.line_of unit.old) }
     ensures answers { answers.new ≡ answers_of E.reading (map said calls.now) (view E.speed_of E.line_of unit.old) }
 {
-    for i in 0..calls.len() {
-        answers[i] = make_call(unit, &calls[i]);
+    for (i, call) in calls.iter().enumerate() {
+        answers[i] = make_call(unit, call);
     }
 }
 
