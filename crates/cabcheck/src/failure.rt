@@ -16,8 +16,8 @@ pub enum Failure<'n> {
         wrong: Wrong,
     },
     NoMemory,
-    // Output cannot be written, or memory is wanting while it is made.
-    Output,
+    // Told by the status alone: output cannot be written, or memory is wanting once the lists are read.
+    Unsaid,
 }
 
 impl<'n> Failure<'n> {
@@ -28,26 +28,26 @@ impl<'n> Failure<'n> {
         }
     }
 
-    // Says on standard error what went wrong; of output the status alone tells it.
+    // Says on standard error what went wrong.
     pub fn say(&self, rt: &HostRuntime) -> io::Result<()> {
         match self {
             Failure::Options(error) => eprintln!(rt; "cabcheck: {error}"),
             Failure::Source { name, error } => eprintln!(rt; "cabcheck: {name}: {error}"),
             Failure::BadLine { name, line, wrong } => eprintln!(rt; "{name}:{line}: {wrong}"),
             Failure::NoMemory => eprintln!(rt; "cabcheck: not enough memory"),
-            Failure::Output => Ok(()),
+            Failure::Unsaid => Ok(()),
         }
     }
 }
 
 impl From<io::Error> for Failure<'_> {
     fn from(_error: io::Error) -> Self {
-        Failure::Output
+        Failure::Unsaid
     }
 }
 
 impl From<AllocError> for Failure<'_> {
     fn from(_error: AllocError) -> Self {
-        Failure::Output
+        Failure::Unsaid
     }
 }

@@ -5,7 +5,9 @@ use std::env;
 #[derive(Drop)]
 pub struct Options {
     pub tsv: bool,
+    // None is standard input.
     pub list: Option<String>,
+    // The list of the pulse cab, where it is another one.
     pub second: Option<String>,
 }
 

@@ -22,8 +22,7 @@ fn load<'n>(rt: &HostRuntime, name: &'n str) -> Result<Vec<Listed>, Failure<'n>>
 // Runs the lists in both cabs and prints what came of it; the status tells whether the answers agree.
 pub fn run_options<'o>(rt: &HostRuntime, options: &'o Options) -> Result<ExitCode, Failure<'o>> {
     let heap = rt.alloc();
-    let list = options.list.as_ref().map_or("-", |name| name.as_str());
-    let listed = load(rt, list)?;
+    let listed = load(rt, options.list.as_deref().unwrap_or("-"))?;
     let second = match &options.second {
         Some(name) => Some(load(rt, name.as_str())?),
         None => None,
