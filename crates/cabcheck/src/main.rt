@@ -2,15 +2,18 @@
 #![tactic(auto)]
 
 mod compare;
+mod failure;
 mod input;
 mod messages;
 mod options;
 mod plan;
 mod run;
+mod side;
 mod table;
 mod tsv;
 mod words;
 
+use failure::Failure;
 use options::{Asked, read_options};
 use run::run_options;
 use std::process::ExitCode;
@@ -31,23 +34,26 @@ or for -, the list comes from standard input.
 The status is 1 where answers differ, or where a list cannot be read.
 ";
 
-fn answer_asked(rt: &HostRuntime) -> anyhow::Result<()> {
-    match read_options(rt) {
+fn answer_asked<'a>(
+    rt: &HostRuntime,
+    asked: &'a anyhow::Result<Asked>,
+) -> Result<ExitCode, Failure<'a>> {
+    match asked {
         Ok(Asked::Help) => rt.print(HELP)?,
         Ok(Asked::Version) => rt.println("cabcheck 0.2.0")?,
-        Ok(Asked::Run(options)) => return run_options(rt, &options),
-        Err(e) => {
-            eprintln!(rt; "cabcheck: {e}")?;
-            return Err(e);
-        }
+        Ok(Asked::Run(options)) => return run_options(rt, options),
+        Err(error) => return Err(Failure::Options(error)),
     }
-    Ok(())
+    Ok(ExitCode::SUCCESS)
 }
 
-// What went wrong was said on standard error where it happened.
 fn main(rt: HostRuntime) -> ExitCode {
-    match answer_asked(&rt) {
-        Ok(()) => ExitCode::SUCCESS,
-        Err(_) => ExitCode::FAILURE,
+    let asked = read_options(&rt);
+    match answer_asked(&rt, &asked) {
+        Ok(status) => status,
+        Err(failure) => {
+            let _ = failure.say(&rt);
+            ExitCode::FAILURE
+        }
     }
 }

@@ -1,11 +1,13 @@
-use anyhow::anyhow;
+use anyhow::{anyhow, bail};
 use std::env;
 
 // What a run is asked to do.
 #[derive(Drop)]
 pub struct Options {
     pub tsv: bool,
-    pub list: String,
+    // None is standard input.
+    pub list: Option<String>,
+    // The list of the pulse cab, where it is another one.
     pub second: Option<String>,
 }
 
@@ -21,37 +23,25 @@ pub fn read_options(rt: &HostRuntime) -> anyhow::Result<Asked> {
     let mut tsv = false;
     let mut list = None;
     let mut second = None;
-    let mut second_next = false;
-    for word in env::args(rt)?.skip(1) {
-        if second_next {
-            second_next = false;
-            second = Some(word);
-        } else if word.as_str() == "--help" || word.as_str() == "-h" {
-            return Ok(Asked::Help);
-        } else if word.as_str() == "--version" {
-            return Ok(Asked::Version);
-        } else if word.as_str() == "--tsv" {
-            tsv = true;
-        } else if word.as_str() == "--second" {
-            second_next = true;
-        } else if word.as_str() != "-" && word.as_str().starts_with('-') {
-            return Err(anyhow!(format!(in rt.alloc();
-                "no option {word}; --help lists what there is"
-            )?));
-        } else if list.is_some() {
-            return Err(anyhow!(format!(in rt.alloc();
-                "one list at a time, and {word} is another"
-            )?));
-        } else {
-            list = Some(word);
+    let mut args = env::args(rt)?;
+    let _program = args.next();
+    while let Some(word) = args.next() {
+        match word.as_str() {
+            "--help" | "-h" => return Ok(Asked::Help),
+            "--version" => return Ok(Asked::Version),
+            "--tsv" => tsv = true,
+            "--second" => {
+                let name = args
+                    .next()
+                    .ok_or_else(|| anyhow!("--second wants the name of a list"))?;
+                second = Some(name);
+            }
+            name if name != "-" && name.starts_with('-') => {
+                bail!("no option {name}; --help lists what there is")
+            }
+            name if list.is_some() => bail!("one list at a time, and {name} is another"),
+            _ => list = Some(word),
         }
     }
-    if second_next {
-        return Err(anyhow!("--second wants the name of a list"));
-    }
-    let list = match list {
-        Some(name) => name,
-        None => String::from_str(rt.alloc(), "-")?,
-    };
     Ok(Asked::Run(Options { tsv, list, second }))
 }

@@ -20,14 +20,46 @@ impl Cab {
     }
 }
 
-// What a row tells: the next call of the unit, or what is no call of it.
+// The places of the first byte of an order in its telegram, and of the byte after it.
 #[derive(Clone, Copy)]
-pub enum What {
-    // An order of a telegram has the places of its first byte and of the byte after it.
-    Call(Option<(usize, usize)>),
+pub struct Places {
+    pub first: usize,
+    pub after: usize,
+}
+
+// What is told that is no call of the unit: a draft that was refused, or how the reading of a telegram ended.
+#[derive(Clone, Copy, PartialEq, Eq)]
+pub enum Note {
     Draft(Refusal),
     Fault { fault: Fault, first: usize },
     End { place: usize },
+}
+
+impl Note {
+    pub fn name(self) -> &'static str {
+        match self {
+            Note::Draft(_) => "draft",
+            Note::Fault { .. } => "fault",
+            Note::End { .. } => "end",
+        }
+    }
+
+    // 0, or the number of the refusal.
+    pub fn number(self) -> u8 {
+        match self {
+            Note::Draft(refusal) => refusal.number(),
+            Note::Fault { fault, .. } => fault.number(),
+            Note::End { .. } => 0,
+        }
+    }
+}
+
+// What a row tells: the next call of the unit, or what is no call of it.
+#[derive(Clone, Copy)]
+pub enum What {
+    // An order of a telegram has its places there.
+    Call(Option<Places>),
+    Note(Note),
 }
 
 #[derive(Clone, Copy)]
@@ -43,72 +75,82 @@ pub struct Plan<'a> {
     pub rows: Vec<Planned>,
 }
 
-fn add_call<'a>(plan: &mut Plan<'a>, line: usize, call: Call<'a>) -> Result<(), AllocError> {
-    plan.calls.push(call)?;
-    add_row(plan, line, What::Call(None))
-}
-
-fn add_row<'a>(plan: &mut Plan<'a>, line: usize, what: What) -> Result<(), AllocError> {
-    plan.rows.push(Planned { line, what })?;
-    Ok(())
-}
-
-// The orders of a telegram are calls, up to its end or its first fault.
-fn add_telegram<'a>(
-    heap: Global,
-    plan: &mut Plan<'a>,
-    line: usize,
-    bytes: &'a [u8],
-) -> Result<(), AllocError> {
-    let reading = read_all(heap, bytes)?;
-    for placed in &reading.orders {
-        plan.calls.push(Call::Order(placed.order))?;
-        add_row(plan, line, What::Call(Some((placed.first, placed.after))))?;
-    }
-    match reading.ending {
-        Ending::End { place } => add_row(plan, line, What::End { place }),
-        Ending::Fault { fault, first } => add_row(plan, line, What::Fault { fault, first }),
-    }
-}
-
-fn add_entry<'a>(
-    heap: Global,
-    plan: &mut Plan<'a>,
-    cab: Cab,
-    listed: &'a Listed,
-) -> Result<(), AllocError> {
-    let line = listed.line;
-    match &listed.entry {
-        Entry::Cycle { bus, pulse } => {
-            let block = match cab {
-                Cab::Bus => bus.as_slice(),
-                Cab::Pulse => pulse.as_slice(),
-            };
-            add_call(plan, line, Call::Cycle(block))
+impl<'a> Plan<'a> {
+    // What a list asks of a cab.
+    pub fn of_list(heap: Global, cab: Cab, listed: &'a [Listed]) -> Result<Plan<'a>, AllocError> {
+        let mut plan = Plan {
+            calls: Vec::new(heap),
+            rows: Vec::new(heap),
+        };
+        for one in listed {
+            plan.add_entry(heap, cab, one)?;
         }
-        Entry::Telegram(bytes) => add_telegram(heap, plan, line, bytes.as_slice()),
-        Entry::Press(button) => add_call(plan, line, Call::Press(*button)),
-        Entry::Order(order) => add_call(plan, line, Call::Order(*order)),
-        Entry::Record {
-            driver,
-            length,
-            percentage,
-            speed,
-        } => match Draft::new(*driver, *length, *percentage, *speed) {
-            Ok(draft) => add_call(plan, line, Call::Take(draft.no())),
-            Err(refusal) => add_row(plan, line, What::Draft(refusal)),
-        },
+        Ok(plan)
     }
-}
 
-// What a list asks of a cab.
-pub fn plan_list<'a>(heap: Global, cab: Cab, listed: &'a [Listed]) -> Result<Plan<'a>, AllocError> {
-    let mut plan = Plan {
-        calls: Vec::new(heap),
-        rows: Vec::new(heap),
-    };
-    for one in listed {
-        add_entry(heap, &mut plan, cab, one)?;
+    fn add_entry(&mut self, heap: Global, cab: Cab, listed: &'a Listed) -> Result<(), AllocError> {
+        let line = listed.line;
+        match &listed.entry {
+            Entry::Cycle { bus, pulse } => {
+                let block = match cab {
+                    Cab::Bus => bus.as_slice(),
+                    Cab::Pulse => pulse.as_slice(),
+                };
+                self.add_call(line, Call::Cycle(block), None)
+            }
+            Entry::Telegram(bytes) => self.add_telegram(heap, line, bytes.as_slice()),
+            Entry::Press(button) => self.add_call(line, Call::Press(*button), None),
+            Entry::Order(order) => self.add_call(line, Call::Order(*order), None),
+            Entry::Record {
+                driver,
+                length,
+                percentage,
+                speed,
+            } => match Draft::new(*driver, *length, *percentage, *speed) {
+                Ok(draft) => self.add_call(line, Call::Take(draft.no()), None),
+                Err(refusal) => self.add_note(line, Note::Draft(refusal)),
+            },
+        }
     }
-    Ok(plan)
+
+    // The orders of a telegram are calls, up to its end or its first fault.
+    fn add_telegram(
+        &mut self,
+        heap: Global,
+        line: usize,
+        bytes: &'a [u8],
+    ) -> Result<(), AllocError> {
+        let reading = read_all(heap, bytes)?;
+        for placed in &reading.orders {
+            let places = Places {
+                first: placed.first,
+                after: placed.after,
+            };
+            self.add_call(line, Call::Order(placed.order), Some(places))?;
+        }
+        let note = match reading.ending {
+            Ending::End { place } => Note::End { place },
+            Ending::Fault { fault, first } => Note::Fault { fault, first },
+        };
+        self.add_note(line, note)
+    }
+
+    fn add_call(
+        &mut self,
+        line: usize,
+        call: Call<'a>,
+        places: Option<Places>,
+    ) -> Result<(), AllocError> {
+        self.calls.push(call)?;
+        self.add_row(line, What::Call(places))
+    }
+
+    fn add_note(&mut self, line: usize, note: Note) -> Result<(), AllocError> {
+        self.add_row(line, What::Note(note))
+    }
+
+    fn add_row(&mut self, line: usize, what: What) -> Result<(), AllocError> {
+        self.rows.push(Planned { line, what })?;
+        Ok(())
+    }
 }

@@ -1,135 +1,85 @@
 use crate::compare::{Counts, compare_lists, count_answers, unequal_speeds};
+use crate::failure::Failure;
 use crate::input::read_source;
 use crate::options::Options;
-use crate::plan::{Cab, Plan, plan_list};
-use crate::table::{Side, print_table};
+use crate::plan::{Cab, Plan};
+use crate::side::Side;
+use crate::table::print_table;
 use crate::tsv::print_tsv;
-use anyhow::anyhow;
 use bench::{Ran, run_both};
-use cab_unit::Unit;
-use call_list::{ListFault, Listed, read_list};
-use driver_desk::Answer;
+use call_list::{Listed, read_list};
 use std::io;
 use std::io::{BufWriter, Write};
-use train_end::{BusEnd, PulseEnd, TrainEnd};
+use std::process::ExitCode;
+use train_end::{BusEnd, PulseEnd};
 
-// The calls of a list; what is wrong is said on standard error.
-fn load(rt: &HostRuntime, name: &str) -> anyhow::Result<Vec<Listed>> {
-    let text = match read_source(rt, name) {
-        Ok(text) => text,
-        Err(e) => {
-            eprintln!(rt; "cabcheck: {name}: {e}")?;
-            return Err(e.into());
-        }
-    };
-    match read_list(rt.alloc(), &text) {
-        Ok(listed) => Ok(listed),
-        Err(ListFault::Line { line, wrong }) => {
-            eprintln!(rt; "{name}:{line}: {wrong}")?;
-            Err(anyhow!("a bad line"))
-        }
-        Err(ListFault::NoMemory) => {
-            eprintln!(rt; "cabcheck: not enough memory")?;
-            Err(anyhow!("not enough memory"))
-        }
-    }
+// The calls of a list.
+fn load<'n>(rt: &HostRuntime, name: &'n str) -> Result<Vec<Listed>, Failure<'n>> {
+    let text = read_source(rt, name).map_err(|error| Failure::Source { name, error })?;
+    read_list(rt.alloc(), &text).map_err(|fault| Failure::of_list(name, fault))
 }
 
-// What a unit answers when it was just switched on, on a new end.
-fn answer_on<E: TrainEnd + Drop>(end: E) -> Answer {
-    let unit = Unit::switch_on(end);
-    let answer = unit.answer();
-    let _end = unit.switch_off();
-    answer
-}
-
-pub fn run_options(rt: &HostRuntime, options: &Options) -> anyhow::Result<()> {
+// Runs the lists in both cabs and prints what came of it; the status tells whether the answers agree.
+pub fn run_options<'o>(rt: &HostRuntime, options: &'o Options) -> Result<ExitCode, Failure<'o>> {
     let heap = rt.alloc();
-    let listed = load(rt, options.list.as_str())?;
-    let bus = plan_list(heap, Cab::Bus, &listed)?;
-    match &options.second {
-        None => {
-            let pulse = plan_list(heap, Cab::Pulse, &listed)?;
-            run_plans(rt, options.tsv, false, &bus, &pulse)
-        }
-        Some(name) => {
-            let second = load(rt, name.as_str())?;
-            let pulse = plan_list(heap, Cab::Pulse, &second)?;
-            run_plans(rt, options.tsv, true, &bus, &pulse)
-        }
-    }
-}
-
-// Runs both plans and prints what came of it; answers that differ are an error.
-fn run_plans(
-    rt: &HostRuntime,
-    tsv: bool,
-    second: bool,
-    bus: &Plan<'_>,
-    pulse: &Plan<'_>,
-) -> anyhow::Result<()> {
-    let heap = rt.alloc();
-    let Ok(ran) = run_both(
-        heap,
-        BusEnd::new(),
-        PulseEnd::new(),
-        &bus.calls,
-        &pulse.calls,
-    ) else {
-        eprintln!(rt; "cabcheck: not enough memory")?;
-        return Err(anyhow!("not enough memory"));
+    let listed = load(rt, options.list.as_deref().unwrap_or("-"))?;
+    let second = match &options.second {
+        Some(name) => Some(load(rt, name.as_str())?),
+        None => None,
     };
+    let bus = Plan::of_list(heap, Cab::Bus, &listed)?;
+    let pulse = Plan::of_list(heap, Cab::Pulse, second.as_ref().unwrap_or(&listed))?;
     let Ran {
         one,
         other,
         answers,
         other_answers,
-    } = ran;
+    } = run_both(
+        heap,
+        BusEnd::new(),
+        PulseEnd::new(),
+        &bus.calls,
+        &pulse.calls,
+    )
+    .map_err(|_ends| Failure::NoMemory)?;
     let _bus_end = one.switch_off();
     let _pulse_end = other.switch_off();
-    print_ran(rt, tsv, second, bus, pulse, &answers, &other_answers)
+    let bus = Side::new(BusEnd::new(), &bus, &answers);
+    let pulse = Side::new(PulseEnd::new(), &pulse, &other_answers);
+    if print_sides(rt, options, &bus, &pulse)? {
+        Ok(ExitCode::SUCCESS)
+    } else {
+        Ok(ExitCode::FAILURE)
+    }
 }
 
-fn print_ran(
+// Prints what came of both runs, and answers whether it agrees.
+fn print_sides(
     rt: &HostRuntime,
-    tsv: bool,
-    second: bool,
-    bus: &Plan<'_>,
-    pulse: &Plan<'_>,
-    answers: &[Answer],
-    other_answers: &[Answer],
-) -> anyhow::Result<()> {
+    options: &Options,
+    bus: &Side<'_, '_>,
+    pulse: &Side<'_, '_>,
+) -> io::Result<bool> {
     let heap = rt.alloc();
-    let likeness = compare_lists(heap, &bus.calls, &pulse.calls, answers, other_answers)?;
-    let counts = count_answers(answers, other_answers, &likeness);
-    let bus_side = Side {
-        on: answer_on(BusEnd::new()),
-        plan: bus,
-        answers,
-    };
-    let pulse_side = Side {
-        on: answer_on(PulseEnd::new()),
-        plan: pulse,
-        answers: other_answers,
-    };
+    let calls = bus.plan.calls.as_slice();
+    let others = pulse.plan.calls.as_slice();
+    let likeness = compare_lists(heap, calls, others, bus.answers, pulse.answers)?;
+    let counts = count_answers(bus.answers, pulse.answers, &likeness);
     let mut out = BufWriter::new(heap, rt.stdout())?;
-    if tsv {
-        print_tsv(&mut out, Cab::Bus, &bus_side)?;
-        print_tsv(&mut out, Cab::Pulse, &pulse_side)?;
+    if options.tsv {
+        print_tsv(&mut out, Cab::Bus, bus)?;
+        print_tsv(&mut out, Cab::Pulse, pulse)?;
     } else {
-        print_table(&mut out, heap, bus_side, pulse_side, &likeness)?;
-        let unequal = unequal_speeds(&bus.calls, &pulse.calls, answers, other_answers);
+        print_table(&mut out, heap, bus, pulse, &likeness)?;
+        let unequal = unequal_speeds(calls, others, bus.answers, pulse.answers);
         writeln!(out, "the speeds differ after {unequal} calls")?;
-        if second {
+        if options.second.is_some() {
             print_likeness(&mut out, likeness.alike, unequal == 0)?;
         }
-        print_verdict(&mut out, answers.len(), other_answers.len(), counts)?;
+        print_verdict(&mut out, bus.answers.len(), pulse.answers.len(), counts)?;
     }
     out.flush()?;
-    if counts.differing > 0 || answers.len() != other_answers.len() {
-        return Err(anyhow!("the answers differ"));
-    }
-    Ok(())
+    Ok(counts.differing == 0 && bus.answers.len() == pulse.answers.len())
 }
 
 // Whether what is promised of two alike runs applies here.

@@ -1,264 +1,244 @@
 use crate::compare::{Likeness, same_asked};
-use crate::messages::{FREE, ROWS, show_call, top_words};
-use crate::plan::{Plan, What};
+use crate::messages::{FREE, Messages, ROWS};
+use crate::plan::{Cab, Note, Places};
+use crate::side::{Row, Side, Told};
 use crate::words::{CallWords, RequestWords, outcome_number};
 use cab_unit::Call;
 use driver_desk::Answer;
+use itertools::Itertools;
 use std::alloc::Global;
-use std::io;
 use std::io::Write;
-use telegram::Fault;
+use std::{fmt, io};
 use train_end::{BusEnd, PulseEnd};
-use window::Window;
 
-// What one cab has to tell in a row.
-#[derive(Clone, Copy)]
-enum Row<'a> {
-    Call(usize, Call<'a>, Option<(usize, usize)>, Answer),
-    Draft(usize, u8),
-    Fault(usize, Fault, usize),
-    End(usize, usize),
-    Nothing,
-}
-
-// The row at a place of the plan; `call` is the place of its next call.
-fn row_at<'a>(plan: &Plan<'a>, answers: &[Answer], row: usize, call: usize) -> Row<'a> {
-    let Some(planned) = plan.rows.get(row) else {
-        return Row::Nothing;
-    };
-    match planned.what {
-        What::Call(places) => match (plan.calls.get(call), answers.get(call)) {
-            (Some(made), Some(answer)) => Row::Call(planned.line, *made, places, *answer),
-            _ => Row::Nothing,
-        },
-        What::Draft(refusal) => Row::Draft(planned.line, refusal.number()),
-        What::Fault { fault, first } => Row::Fault(planned.line, fault, first),
-        What::End { place } => Row::End(planned.line, place),
-    }
-}
-
-fn print_words<W: Write>(out: &mut W, words: Option<&[u8]>) -> io::Result<()> {
-    if let Some(words) = words {
-        write!(out, "  ")?;
-        for b in words {
-            write!(out, "{}", *b as char)?;
-        }
-    }
-    Ok(())
-}
-
-fn print_answer<W: Write>(
-    out: &mut W,
-    heap: Global,
-    line: usize,
-    cab: &str,
-    call: &str,
-    column: Column,
-    answer: &Answer,
-) -> anyhow::Result<()> {
-    let outcome = outcome_number(answer.outcome);
-    let mode = answer.mode.name();
-    let level = answer.level.number();
-    let brake = answer.line.number();
-    let first = RequestWords(answer.first);
-    let first = format!(in heap; "{first}")?;
-    write!(
-        out,
-        "{line:>6} {cab:<5} {call:<14} {outcome:>3}  {mode} {level:>5} {brake:>5}"
-    )?;
-    write!(
-        out,
-        " {:>7} {:>7}  {first:<14}",
-        answer.buttons, answer.waiting
-    )?;
-    print_column(out, column)?;
-    Ok(())
-}
-
-// What stands behind the requests: the places of a telegram's order, its first byte and the byte after it,
-// or what the two ends read in the blocks of a cycle.
+// What stands behind the requests: the places of a telegram's order, or what the two ends read in the blocks of a cycle.
 #[derive(Clone, Copy)]
 enum Column {
     Blank,
-    Places(usize, usize),
-    Speeds(Option<u16>, Option<u16>),
+    Places(Places),
+    Speeds {
+        bus: Option<u16>,
+        pulse: Option<u16>,
+    },
 }
 
-fn print_speed<W: Write>(out: &mut W, speed: Option<u16>) -> io::Result<()> {
-    match speed {
-        Some(kmh) => write!(out, "{kmh:>4}"),
-        None => write!(out, "   ?"),
-    }
-}
-
-fn print_column<W: Write>(out: &mut W, column: Column) -> io::Result<()> {
-    match column {
-        Column::Blank => write!(out, "             "),
-        Column::Places(first, after) => write!(out, " {first:>4} to {after:<4}"),
-        Column::Speeds(bus, pulse) => {
-            write!(out, " ")?;
-            print_speed(out, bus)?;
-            write!(out, "{}", if bus == pulse { " =  " } else { " <> " })?;
-            print_speed(out, pulse)
+impl Column {
+    // What the two ends read, where both rows tell of cycles.
+    fn of_cycles(told: &Told<'_>, other: &Told<'_>) -> Column {
+        match (*told, *other) {
+            (
+                Told::Call {
+                    call: Call::Cycle(bus),
+                    ..
+                },
+                Told::Call {
+                    call: Call::Cycle(pulse),
+                    ..
+                },
+            ) => Column::Speeds {
+                bus: BusEnd::read(bus),
+                pulse: PulseEnd::read(pulse),
+            },
+            _ => Column::Blank,
         }
     }
 }
 
-// What the two ends read, where both rows are cycles.
-fn speeds_of(row: &Row<'_>, other: &Row<'_>) -> Option<(Option<u16>, Option<u16>)> {
-    match (*row, *other) {
-        (Row::Call(_, Call::Cycle(bus), _, _), Row::Call(_, Call::Cycle(pulse), _, _)) => Some((
-            BusEnd::read(bus),
-            PulseEnd::read(pulse),
-        )),
-        _ => None,
-    }
-}
-
-fn column_of(places: Option<(usize, usize)>, speeds: Option<(Option<u16>, Option<u16>)>) -> Column {
-    match (places, speeds) {
-        (Some((first, after)), _) => Column::Places(first, after),
-        (None, Some((bus, pulse))) => Column::Speeds(bus, pulse),
-        (None, None) => Column::Blank,
-    }
-}
-
-fn print_row<W: Write>(
-    out: &mut W,
-    heap: Global,
-    cab: &str,
-    row: &Row<'_>,
-    speeds: Option<(Option<u16>, Option<u16>)>,
-) -> anyhow::Result<()> {
-    match *row {
-        Row::Call(line, call, places, answer) => {
-            let call = CallWords(call);
-            let call = format!(in heap; "{call}")?;
-            print_answer(
-                out,
-                heap,
-                line,
-                cab,
-                call.as_str(),
-                column_of(places, speeds),
-                &answer,
-            )?
+impl fmt::Display for Column {
+    fn fmt<W: fmt::Write>(&self, f: &mut fmt::Formatter<W>) -> fmt::Result {
+        match *self {
+            Column::Blank => f.write_str("             "),
+            Column::Places(Places { first, after }) => write!(f, " {first:>4} to {after:<4}"),
+            Column::Speeds { bus, pulse } => {
+                let sign = if bus == pulse { "= " } else { "<>" };
+                let bus = Speed(bus);
+                let pulse = Speed(pulse);
+                write!(f, " {bus} {sign} {pulse}")
+            }
         }
-        Row::Draft(line, number) => write!(out, "{line:>6} {cab:<5} draft          {number:>3}")?,
-        Row::Fault(line, fault, first) => {
-            let number = fault.number();
-            write!(
-                out,
-                "{line:>6} {cab:<5} fault          {number:>3}  at {first}: {fault}"
-            )?
-        }
-        Row::End(line, place) => write!(out, "{line:>6} {cab:<5} end              0  at {place}")?,
-        Row::Nothing => write!(out, "     - {cab:<5} nothing")?,
     }
-    Ok(())
 }
 
-// Rows that tell the same: the same call with the same answer, or the same of what is no call.
-fn same_row(row: &Row<'_>, other: &Row<'_>) -> bool {
-    match (*row, *other) {
-        (Row::Call(_, call, _, answer), Row::Call(_, other_call, _, other_answer)) => same_asked(
-            &call,
-            &other_call,
-        ) && answer == other_answer,
-        (Row::Draft(_, number), Row::Draft(_, other)) => number == other,
-        (Row::Fault(_, fault, first), Row::Fault(_, other, other_first)) => fault.number()
-            == other.number()
-            && first == other_first,
-        (Row::End(_, place), Row::End(_, other)) => place == other,
+// A speed in km/h, or ? for unknown.
+#[derive(Clone, Copy)]
+struct Speed(Option<u16>);
+
+impl fmt::Display for Speed {
+    fn fmt<W: fmt::Write>(&self, f: &mut fmt::Formatter<W>) -> fmt::Result {
+        match self.0 {
+            Some(kmh) => write!(f, "{kmh:>4}"),
+            None => f.write_str("   ?"),
+        }
+    }
+}
+
+// The words of the top message in the last column, which is empty where there is none.
+#[derive(Clone, Copy)]
+struct Message<'s>(Option<&'s [u8]>);
+
+impl fmt::Display for Message<'_> {
+    fn fmt<W: fmt::Write>(&self, f: &mut fmt::Formatter<W>) -> fmt::Result {
+        if let Some(words) = self.0 {
+            f.write_str("  ")?;
+            for byte in words {
+                f.write_char(*byte as char)?;
+            }
+        }
+        Ok(())
+    }
+}
+
+// The words of a note in its last columns.
+#[derive(Clone, Copy)]
+struct NoteWords(Note);
+
+impl fmt::Display for NoteWords {
+    fn fmt<W: fmt::Write>(&self, f: &mut fmt::Formatter<W>) -> fmt::Result {
+        match self.0 {
+            Note::Draft(_) => Ok(()),
+            Note::Fault { fault, first } => write!(f, "  at {first}: {fault}"),
+            Note::End { place } => write!(f, "  at {place}"),
+        }
+    }
+}
+
+// The same call with the same answer, or the same of what is no call.
+fn same_told(told: &Told<'_>, other: &Told<'_>) -> bool {
+    match (*told, *other) {
+        (
+            Told::Call { call, answer, .. },
+            Told::Call {
+                call: other_call,
+                answer: other_answer,
+                ..
+            },
+        ) => same_asked(&call, &other_call) && answer == other_answer,
+        (Told::Note(note), Told::Note(other)) => note == other,
         _ => false,
     }
 }
 
-// One row where both cabs tell the same, else both with a mark.
-fn print_pair<W: Write>(
-    out: &mut W,
+// Where the rows are printed, and the heap for words that are padded.
+#[derive(Drop)]
+struct Table<'o, W> {
+    out: &'o mut W,
     heap: Global,
-    row: &Row<'_>,
-    other: &Row<'_>,
-    reordered: bool,
-    words: Option<&[u8]>,
-) -> anyhow::Result<()> {
-    let speeds = speeds_of(row, other);
-    if same_row(row, other) {
-        print_row(out, heap, "", row, speeds)?;
-        if is_call(row) {
-            print_words(out, words)?;
-        }
-        writeln!(out)?;
-        return Ok(());
+}
+
+impl<W: Write> Table<'_, W> {
+    fn print_answer(
+        &mut self,
+        line: usize,
+        cab: &str,
+        call: &str,
+        column: Column,
+        answer: &Answer,
+    ) -> io::Result<()> {
+        let outcome = outcome_number(answer.outcome);
+        let mode = answer.mode.name();
+        let level = answer.level.number();
+        let brake = answer.line.number();
+        let buttons = answer.buttons;
+        let waiting = answer.waiting;
+        let first = RequestWords(answer.first);
+        let first = format!(in self.heap; "{first}")?;
+        write!(
+            self.out,
+            "{line:>6} {cab:<5} {call:<14} {outcome:>3}  {mode} {level:>5} {brake:>5}"
+        )?;
+        write!(self.out, " {buttons:>7} {waiting:>7}  {first:<14}{column}")
     }
-    let mark = if reordered {
-        "  ~ another order"
-    } else {
-        "  < differ"
-    };
-    print_row(out, heap, "bus", row, speeds)?;
-    print_words(out, words)?;
-    writeln!(out, "{mark}")?;
-    print_row(out, heap, "pulse", other, speeds)?;
-    writeln!(out, "{mark}")?;
-    Ok(())
-}
 
-fn is_call(row: &Row<'_>) -> bool {
-    matches!(row, Row::Call(..))
-}
+    // A row of a cab, or that it has none; of a call that stands in no telegram, `column` comes behind the requests.
+    fn print_row(&mut self, cab: &str, row: Option<Row<'_>>, column: Column) -> io::Result<()> {
+        let Some(Row { line, told }) = row else {
+            return write!(self.out, "     - {cab:<5} nothing");
+        };
+        match told {
+            Told::Call {
+                call,
+                places,
+                answer,
+            } => {
+                let call = CallWords(call);
+                let call = format!(in self.heap; "{call}")?;
+                let column = places.map_or(column, Column::Places);
+                self.print_answer(line, cab, call.as_str(), column, &answer)
+            }
+            Told::Note(note) => {
+                let name = note.name();
+                let number = note.number();
+                let words = NoteWords(note);
+                write!(self.out, "{line:>6} {cab:<5} {name:<14} {number:>3}{words}")
+            }
+        }
+    }
 
-fn is_cycle(row: &Row<'_>) -> bool {
-    matches!(row, Row::Call(_, Call::Cycle(_), _, _))
-}
-
-// What one cab was asked and answered.
-#[derive(Clone, Copy)]
-pub struct Side<'p, 'c, 'a> {
-    pub on: Answer,
-    pub plan: &'p Plan<'c>,
-    pub answers: &'a [Answer],
+    // One row where both cabs tell the same, else both with a mark.
+    fn print_pair(
+        &mut self,
+        row: Option<Row<'_>>,
+        other: Option<Row<'_>>,
+        reordered: bool,
+        message: Message<'_>,
+    ) -> io::Result<()> {
+        let mut column = Column::Blank;
+        if let (Some(one), Some(two)) = (row, other) {
+            column = Column::of_cycles(&one.told, &two.told);
+            if same_told(&one.told, &two.told) {
+                self.print_row("", row, column)?;
+                let message = match one.told {
+                    Told::Call { .. } => message,
+                    Told::Note(_) => Message(None),
+                };
+                return writeln!(self.out, "{message}");
+            }
+        }
+        let mark = if reordered {
+            "  ~ another order"
+        } else {
+            "  < differ"
+        };
+        self.print_row(Cab::Bus.name(), row, column)?;
+        writeln!(self.out, "{message}{mark}")?;
+        self.print_row(Cab::Pulse.name(), other, column)?;
+        writeln!(self.out, "{mark}")
+    }
 }
 
 // The table of both cabs; the words of the first cab's top message stand behind its rows.
-pub fn print_table<W: Write>(
+pub fn print_table<W: Write + Drop>(
     out: &mut W,
     heap: Global,
-    bus: Side<'_, '_, '_>,
-    pulse: Side<'_, '_, '_>,
+    bus: &Side<'_, '_>,
+    pulse: &Side<'_, '_>,
     likeness: &Likeness,
-) -> anyhow::Result<()> {
+) -> io::Result<()> {
     let mut lines = [FREE; ROWS];
-    let mut window = Window::new(&mut lines);
-    let mut store = Vec::new(heap);
-    let mut call = 0usize;
-    let mut other_call = 0usize;
-    let mut cycle = 0u32;
+    let mut messages = Messages::new(heap, &mut lines);
+    let mut reordered = likeness.reordered.iter();
+    let mut table = Table { out, heap };
     writeln!(
-        out,
+        table.out,
         "  line cab   call           out  mode level brake buttons waiting  first          bytes or km/h  message"
     )?;
-    print_answer(out, heap, 0, "", "on", Column::Blank, &bus.on)?;
-    writeln!(out)?;
-    for i in 0..bus.plan.rows.len().max(pulse.plan.rows.len()) {
-        let row = row_at(bus.plan, bus.answers, i, call);
-        let other = row_at(pulse.plan, pulse.answers, i, other_call);
-        if let Row::Call(_, made, _, answer) = row {
-            show_call(&mut window, &mut store, cycle, &made, &answer)?;
+    table.print_answer(0, "", "on", Column::Blank, &bus.on)?;
+    writeln!(table.out)?;
+    for pair in bus.rows().zip_longest(pulse.rows()) {
+        let (row, other) = pair.left_and_right();
+        let mut in_another_order = false;
+        if let Some(
+            Row {
+                told: Told::Call { call, answer, .. },
+                ..
+            },
+        ) = row
+        {
+            messages.show_call(&call, &answer)?;
+            in_another_order = reordered.next().copied().unwrap_or(false);
         }
-        let reordered = is_call(&row) && likeness.reordered.get(call).copied().unwrap_or(false);
-        print_pair(
-            out,
-            heap,
-            &row,
-            &other,
-            reordered,
-            top_words(&window, &store),
-        )?;
-        cycle = cycle.saturating_add(if is_cycle(&row) { 1 } else { 0 });
-        call = call.saturating_add(if is_call(&row) { 1 } else { 0 });
-        other_call = other_call.saturating_add(if is_call(&other) { 1 } else { 0 });
+        let message = Message(messages.top_words());
+        table.print_pair(row, other, in_another_order, message)?;
     }
     Ok(())
 }

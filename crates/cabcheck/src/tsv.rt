@@ -1,64 +1,67 @@
-use crate::plan::{Cab, What};
-use crate::table::Side;
+use crate::plan::{Cab, Note};
+use crate::side::{Row, Side, Told};
 use crate::words::{CallWords, RequestWords, outcome_number};
 use driver_desk::Answer;
-use std::io;
 use std::io::Write;
+use std::{fmt, io};
 
-fn print_answer<W: Write>(out: &mut W, answer: &Answer) -> io::Result<()> {
-    let outcome = outcome_number(answer.outcome);
-    let mode = answer.mode.name();
-    let level = answer.level.number();
-    let line = answer.line.number();
-    write!(
-        out,
-        "\t{outcome}\t{mode}\t{level}\t{line}\t{}\t{}",
-        answer.buttons, answer.waiting
-    )?;
-    let first = RequestWords(answer.first);
-    let raised = RequestWords(answer.raised);
-    let acknowledged = RequestWords(answer.acknowledged);
-    writeln!(
-        out,
-        "\t{first}\t{raised}\t{acknowledged}\t{}",
-        answer.withdrawn
-    )
+// An answer in its columns.
+#[derive(Clone, Copy)]
+struct AnswerColumns(Answer);
+
+impl fmt::Display for AnswerColumns {
+    fn fmt<W: fmt::Write>(&self, f: &mut fmt::Formatter<W>) -> fmt::Result {
+        let answer = &self.0;
+        let outcome = outcome_number(answer.outcome);
+        let mode = answer.mode.name();
+        let level = answer.level.number();
+        let line = answer.line.number();
+        let buttons = answer.buttons;
+        let waiting = answer.waiting;
+        let first = RequestWords(answer.first);
+        let raised = RequestWords(answer.raised);
+        let acknowledged = RequestWords(answer.acknowledged);
+        let withdrawn = answer.withdrawn;
+        write!(
+            f,
+            "{outcome}\t{mode}\t{level}\t{line}\t{buttons}\t{waiting}"
+        )?;
+        write!(f, "\t{first}\t{raised}\t{acknowledged}\t{withdrawn}")
+    }
 }
 
-// A row that tells of no call of the unit: a number for the outcome, one more or -, and - in every later column.
-fn print_other<W: Write>(
-    out: &mut W,
-    name: &str,
-    outcome: u8,
-    place: Option<usize>,
-) -> io::Result<()> {
-    write!(out, "\t{name}\t{outcome}\t")?;
-    match place {
-        Some(place) => write!(out, "{place}")?,
-        None => write!(out, "-")?,
+// What is no call of the unit in those columns: a number for the outcome, a place or -, and - in every later column.
+#[derive(Clone, Copy)]
+struct NoteColumns(Note);
+
+impl fmt::Display for NoteColumns {
+    fn fmt<W: fmt::Write>(&self, f: &mut fmt::Formatter<W>) -> fmt::Result {
+        write!(f, "{}\t", self.0.number())?;
+        match self.0 {
+            Note::Draft(_) => f.write_str("-")?,
+            Note::Fault { first, .. } => write!(f, "{first}")?,
+            Note::End { place } => write!(f, "{place}")?,
+        }
+        f.write_str("\t-\t-\t-\t-\t-\t-\t-\t-")
     }
-    writeln!(out, "\t-\t-\t-\t-\t-\t-\t-\t-")
 }
 
 // All rows of one cab, that after switching on first.
-pub fn print_tsv<W: Write>(out: &mut W, cab: Cab, side: &Side<'_, '_, '_>) -> io::Result<()> {
+pub fn print_tsv<W: Write>(out: &mut W, cab: Cab, side: &Side<'_, '_>) -> io::Result<()> {
     let name = cab.name();
-    write!(out, "0\t{name}\ton")?;
-    print_answer(out, &side.on)?;
-    let mut calls = side.plan.calls.iter().zip(side.answers.iter());
-    for row in &side.plan.rows {
-        write!(out, "{}\t{name}", row.line)?;
-        match row.what {
-            What::Call(_) => {
-                if let Some((call, answer)) = calls.next() {
-                    let words = CallWords(*call);
-                    write!(out, "\t{words}")?;
-                    print_answer(out, answer)?;
-                }
+    let on = AnswerColumns(side.on);
+    writeln!(out, "0\t{name}\ton\t{on}")?;
+    for Row { line, told } in side.rows() {
+        match told {
+            Told::Call { call, answer, .. } => {
+                let call = CallWords(call);
+                let answer = AnswerColumns(answer);
+                writeln!(out, "{line}\t{name}\t{call}\t{answer}")?;
             }
-            What::Draft(refusal) => print_other(out, "draft", refusal.number(), None)?,
-            What::Fault { fault, first } => print_other(out, "fault", fault.number(), Some(first))?,
-            What::End { place } => print_other(out, "end", 0, Some(place))?,
+            Told::Note(note) => {
+                let columns = NoteColumns(note);
+                writeln!(out, "{line}\t{name}\t{}\t{columns}", note.name())?;
+            }
         }
     }
     Ok(())

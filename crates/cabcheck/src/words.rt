@@ -16,27 +16,18 @@ impl fmt::Display for CallWords<'_> {
         match self.0 {
             Call::Cycle(_) => f.write_str("cycle"),
             Call::Press(button) => write!(f, "press {button}"),
-            Call::Order(order) => write_order(order, f),
             Call::Take(_) => f.write_str("take"),
+            Call::Order(Order::Authority(mode)) => write!(f, "authority {}", mode.name()),
+            Call::Order(Order::Level(level)) => write!(f, "level {level}"),
+            Call::Order(Order::Text { number, wanted, .. }) => {
+                let mark = if wanted { "wanted" } else { "shown" };
+                write!(f, "text {number} {mark}")
+            }
+            Call::Order(Order::TextWithdrawal(number)) => write!(f, "withdraw {number}"),
+            Call::Order(Order::EmergencyStop) => f.write_str("stop"),
+            Call::Order(Order::Sign) => f.write_str("sign"),
+            Call::Order(Order::Permission) => f.write_str("permission"),
         }
-    }
-}
-
-fn write_order<W: fmt::Write>(order: Order<'_>, f: &mut fmt::Formatter<W>) -> fmt::Result {
-    match order {
-        Order::Authority(mode) => {
-            let name = mode.name();
-            write!(f, "authority {name}")
-        }
-        Order::Level(level) => write!(f, "level {level}"),
-        Order::Text { number, wanted, .. } => {
-            let mark = if wanted { "wanted" } else { "shown" };
-            write!(f, "text {number} {mark}")
-        }
-        Order::TextWithdrawal(number) => write!(f, "withdraw {number}"),
-        Order::EmergencyStop => f.write_str("stop"),
-        Order::Sign => f.write_str("sign"),
-        Order::Permission => f.write_str("permission"),
     }
 }
 
@@ -49,7 +40,7 @@ impl fmt::Display for RequestWords {
 
     fn fmt<W: fmt::Write>(&self, f: &mut fmt::Formatter<W>) -> fmt::Result {
         match self.0 {
-            None => write!(f, "-"),
+            None => f.write_str("-"),
             Some(request) => write!(f, "{request}"),
         }
     }
@@ -59,8 +50,5 @@ impl fmt::Display for RequestWords {
 pub fn outcome_number(outcome: Option<Refusal>) -> u8
     ensures { result ≡ outcome_number outcome }
 {
-    match outcome {
-        None => 0,
-        Some(refusal) => refusal.number(),
-    }
+    outcome.map_or(0, |refusal| refusal.number())
 }
