@@ -1,5 +1,5 @@
 -- What the laws of a strict order give of the best record so far.
-use Rattle.std.proofs.Common.{◌≡◌, ℕ, ◌+◌, ◌<◌, Bool, true, false, cond, List, [], ◌∷◌, length, get_or, drop, Some, None, Option, sym, refl, ap, ◌∙◌, subst, ⊎_elim, arith, below_more}
+use Rattle.std.proofs.Common.{◌≡◌, ℕ, ◌+◌, ◌<◌, Bool, true, false, cond, List, [], ◌∷◌, length, get_or, drop, Some, None, Option, sym, refl, ap, ◌∙◌, ⊎_elim, arith, below_more}
 use Rattle.std.proofs.lemmas.List.Elements.{pair_read}
 use Rattle.std.proofs.lemmas.List.{drop_more, drop_all}
 use Rattle.std.proofs.lemmas.Bool.{both_ways, cases_Bool, cond-true, cond-false}
@@ -18,7 +18,7 @@ first-left false false e h no-c no-e = sym no-e ∙ h
 
 -- The record at `b` is the best of the first `i`, and the choice over the whole run goes on from it.
 abbrev pub BestOf : {X : Type 0} → (X → X → Bool) → List X → ℕ → ℕ → Type 0
-BestOf {X} before xs i b = (b < i)
+BestOf {X} before xs i b = (b < length xs)
     × ((k : ℕ) (d : X) → k < i → before (get_or xs k d) (get_or xs b d) ≡ false)
     × ((d : X) → chosen before xs ≡ Some (best_place before (get_or xs b d) b i (drop i xs)))
 
@@ -32,10 +32,10 @@ module _ {X : Type 0} {before same : X → X → Bool} (o : Strict before same) 
   itself : (x : X) → before x x ≡ false
   itself x = not-both (before x x) (same x x) (o.one x x)
 
-  -- The first record is the best of one.
-  pub best_of_one : (xs : List X) → 0 < length xs → BestOf before xs 1 0
-  best_of_one [] within = absurd (omega arith)
-  best_of_one (x ∷ xs) within = (omega arith, (λ k d h. let e : 0 ≡ k = omega arith in subst (λ m. before (get_or (x ∷ xs) m d) x ≡ false) e (itself x)), λ d. refl)
+  -- The choice begins at the first record, which does not give way to itself.
+  pub best_of_none : (xs : List X) → 0 < length xs → BestOf before xs 0 0
+  best_of_none [] within = absurd (omega arith)
+  best_of_none (x ∷ xs) within = (within, (λ k d h. absurd (omega arith)), λ d. sym (ap (λ n. Some n) (cond-false _ _ _ (itself x))))
 
   module _ (xs : List X) (i b : ℕ) (x y : X) (best : BestOf before xs i b) (within : i < length xs) (atx : x ≡ get_or xs i x) (aty : y ≡ get_or xs b y) where
     -- What is known of the two records that meet, at any default.
@@ -49,7 +49,7 @@ module _ {X : Type 0} {before same : X → X → Bool} (o : Strict before same) 
     -- A next record that is not before the best leaves it the best.
     pub best_keeps : before x y ≡ false → BestOf before xs (i + 1) b
     best_keeps e = (
-      omega arith,
+      best.0,
       (λ k d h. below_more (λ m. before (get_or xs m d) (get_or xs b d) ≡ false) i (λ m l. best.1 m d l) (meet false e d) k h),
       λ d. goes_on d ∙ ap (λ n. Some n) (cond-false _ _ _ (meet false e d)),
     )
@@ -57,7 +57,7 @@ module _ {X : Type 0} {before same : X → X → Bool} (o : Strict before same) 
     -- A next record that is before the best is the new best.
     pub best_gives_way : before x y ≡ true → BestOf before xs (i + 1) i
     best_gives_way e = (
-      omega arith,
+      within,
       (λ k d h. below_more (λ m. before (get_or xs m d) (get_or xs i d) ≡ false) i
           (λ m l. ⊎_elim (λ t. absurd (both_ways _ (best.1 m d l) (o.carries _ _ _ t (meet true e d)))) (λ f. f) (cases_Bool (before (get_or xs m d) (get_or xs i d))))
           (itself (get_or xs i d)) k h),

@@ -14,6 +14,11 @@ module _ {X : Type 0} where
   abbrev pub places : Shelf X → ℕ
   places s = length s.run.now
 
+  -- From `m` to `n` by a call that leaves the places as many, on the slice that was lent.
+  pub record SameRun (m n : Shelf X) : Type 0 where
+    pub room : places n ≡ places m
+    pub lent : n.run.ghost_name ≡ m.run.ghost_name
+
   -- From `m` to `n` by a call that puts `x` in front.
   abbrev pub PutFront : Shelf X → Shelf X → X → Result (Unit {0}) ShelfRefusal → Type 0
   PutFront m n x (Ok _) = (length (items m) < places m) × (items n ≡ x ∷ items m)

@@ -26,8 +26,8 @@ pub fn first_of<T: Ordered>(run: &[T]) -> Option<usize>
         return None;
     }
     let mut best = 0;
-    for i in 1..run.len() {
-        if run[i].is_before(&run[best]) {
+    for (i, x) in run.iter().enumerate() {
+        if x.is_before(&run[best]) {
             best = i;
         }
     }

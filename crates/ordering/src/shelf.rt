@@ -1,7 +1,5 @@
-// A shelf on a lent slice: its records are those before the count. A count past the slice's end stands for its end.
-ghost use Rattle.std.specs.Prelude.{◌≡◌, min, [], length};
-ghost use Rattle.ordering.specs.Order.{chosen, Apart, NoneBefore, Leads};
-ghost use Rattle.ordering.specs.Shelf.{items, places, PutFront, TakenOut};
+// A shelf: records on a slice that its owner lends, so that nothing is allocated; those in use stand before the count.
+ghost use Rattle.std.specs.Prelude.{◌≤◌, length};
 
 use crate::order::{Ordered, first_of};
 
@@ -11,26 +9,25 @@ pub enum ShelfRefusal {
     NoSuchPosition,
 }
 
+// A slice and a count, and no `Vec` or `ArrayVec`: fixed memory, whose size its owner chooses.
 #[derive(Drop)]
 pub struct Shelf<'a, T> {
     run: &'a mut [T],
     count: usize,
+    ghost within: { count ≤ length run.now },
 }
 
 impl<'a, T: Copy> Shelf<'a, T> {
+    ghost use Rattle.std.specs.Prelude.{◌≡◌, [], length};
+    ghost use Rattle.ordering.specs.Order.{chosen, Apart, NoneBefore, Leads};
+    ghost use Rattle.ordering.specs.Shelf.{items, places, SameRun, PutFront, TakenOut};
+
     pub fn new(run: &'a mut [T]) -> Shelf<'a, T>
         ensures empty { items result ≡ [] }
         ensures room { places result ≡ length run.old }
         ensures lent { result.run.ghost_name ≡ run.entry.ghost_name }
     {
         Shelf { run, count: 0 }
-    }
-
-    // How many places of the slice are in use.
-    fn used(&self) -> usize
-        ensures { result ≡ min self.now.count (places self.now) }
-    {
-        self.count.min(self.places())
     }
 
     pub fn len(&self) -> usize
@@ -48,36 +45,33 @@ impl<'a, T: Copy> Shelf<'a, T> {
     pub fn live(&self) -> &[T]
         ensures { result.now ≡ items self.now }
     {
-        &self.run[0..self.used()]
+        &self.run[..self.count]
     }
 
     pub fn put_front(&mut self, x: T) -> Result<(), ShelfRefusal>
-        ensures room { places self.new ≡ places self.old }
-        ensures lent { self.new.run.ghost_name ≡ self.old.run.ghost_name }
+        ensures same_run { SameRun self.old self.new }
         ensures cases { PutFront self.old self.new x result }
     {
-        let n = self.used();
+        let n = self.count;
         if n == self.places() {
             return Err(ShelfRefusal::NoFreePlace);
         }
-        self.run.copy_within(0..n, 1);
+        self.run.copy_within(..n, 1);
         self.run[0] = x;
-        self.count = n + 1;
+        self.count += 1;
         Ok(())
     }
 
     pub fn take_out(&mut self, position: usize) -> Result<T, ShelfRefusal>
-        ensures room { places self.new ≡ places self.old }
-        ensures lent { self.new.run.ghost_name ≡ self.old.run.ghost_name }
+        ensures same_run { SameRun self.old self.new }
         ensures cases { TakenOut self.old self.new position result }
     {
-        let n = self.used();
-        if position >= n {
-            return Err(ShelfRefusal::NoSuchPosition);
-        }
-        let x = self.run[position];
-        self.run.copy_within(position + 1..n, position);
-        self.count = n - 1;
+        let x = *self
+            .live()
+            .get(position)
+            .ok_or(ShelfRefusal::NoSuchPosition)?;
+        self.run.copy_within(position + 1..self.count, position);
+        self.count -= 1;
         Ok(x)
     }
 

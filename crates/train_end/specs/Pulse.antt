@@ -1,10 +1,5 @@
 -- What the pulse end reads in a block: two 16-bit pulse counts, high byte first, one from each axle.
-use Rattle.std.specs.Prelude.{◌≡◌, ℕ, ◌+◌, ◌-◌, ◌*◌, ◌/◌, ◌<◌, ◌≤◌, min, max, cond, List, [], ◌∷◌, Some, None, Option, nat_le}
-
--- what follows from a known value; nothing from an unknown one
-abbrev pub when_known : {X Y : Type 0} → Option X → (X → Option Y) → Option Y
-when_known None f = None
-when_known (Some x) f = f x
+use Rattle.std.specs.Prelude.{◌≡◌, ℕ, ◌+◌, ◌-◌, ◌*◌, ◌/◌, ◌<◌, ◌≤◌, min, max, cond, List, [], ◌∷◌, Some, None, Option, option_and_then, nat_le}
 
 abbrev pub larger_of : ℕ → ℕ → Option ℕ
 larger_of one other = cond (nat_le (max one other - min one other) 3) (Some (max one other)) None
@@ -31,10 +26,10 @@ count_speed p = cond (nat_le p 555) (Some (kmh_of p)) None
 
 -- the count that a block comes to: unknown where there is no pair, or its counts lie apart
 abbrev pub pulse_count : List ℕ → Option ℕ
-pulse_count block = when_known (pulse_counts block) larger_count
+pulse_count block = option_and_then larger_count (pulse_counts block)
 
 abbrev pub pulse_reading : List ℕ → Option ℕ
-pulse_reading block = when_known (pulse_count block) count_speed
+pulse_reading block = option_and_then count_speed (pulse_count block)
 
 -- 1 pulse on an axle is 2 km/h; 555 are 600 km/h, the last count that is known
 abbrev pub PulseEdges : Type 0

@@ -4,9 +4,9 @@ ghost use Rattle.train_end.specs.Line.{line_number};
 // What the brake line demands.
 #[derive(Clone, Copy, PartialEq, Eq, Debug)]
 pub enum BrakeLine {
-    Released,
-    Service,
-    Emergency,
+    Released = 0,
+    Service = 1,
+    Emergency = 2,
 }
 
 impl BrakeLine {
@@ -14,10 +14,6 @@ impl BrakeLine {
     pub fn number(self) -> u8
         ensures { result ≡ line_number self }
     {
-        match self {
-            BrakeLine::Released => 0,
-            BrakeLine::Service => 1,
-            BrakeLine::Emergency => 2,
-        }
+        self as u8
     }
 }

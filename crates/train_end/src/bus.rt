@@ -2,7 +2,6 @@ ghost use Rattle.std.specs.Prelude.{◌≡◌, true, None};
 ghost use Rattle.train_end.specs.declared.brake_line.BrakeLine.TheVariants.{Emergency};
 ghost use Rattle.train_end.specs.Bus.{bus_reading, bus_fields, valid_bit, filler_bits, speed_bits, BusEdges, EverySpeedHasABlock};
 ghost use Rattle.train_end.specs.Speed.{in_range, RangeEdges};
-ghost use Rattle.std.proofs.Common.{rules, arith};
 
 use crate::brake_line::BrakeLine;
 use crate::end::TrainEnd;
@@ -21,12 +20,8 @@ fn fields(high: u8, low: u8) -> Option<u16>
 {
     let valid = high / 128;
     let filler = high / 4 % 32;
-    let speed = (high % 4) as u16 * 256 + low as u16;
-    if valid == 1 && filler == 0 && speed <= 600 {
-        Some(speed)
-    } else {
-        None
-    }
+    let speed = u16::from_be_bytes([high % 4, low]);
+    (valid == 1 && filler == 0 && speed <= 600).then_some(speed)
 }
 
 impl BusEnd {
@@ -42,6 +37,7 @@ impl BusEnd {
     }
 
     // The speed that a block means: valid 1 bit, five zero bits, speed 10 bits.
+    #[tactic(auto, using(crate::proofs::Blocks::every_speed_has_a_block))]
     pub fn read(block: &[u8]) -> Option<u16>
         ensures value { result ≡ bus_reading block.now }
         ensures edges { BusEdges }
@@ -62,7 +58,7 @@ impl TrainEnd for BusEnd {
 
     ghost line_of = { λ e. e.line };
 
-    ghost range = { first_of (Prim.search rules, Prim.grind (arith, Self.row.coded.inj)) };
+    ghost range = { λ e. e.range };
 
     fn give_block(&mut self, block: &[u8]) {
         self.speed = BusEnd::read(block);

@@ -3,7 +3,6 @@ ghost use Rattle.train_end.specs.declared.brake_line.BrakeLine.TheVariants.{Emer
 ghost use Rattle.train_end.specs.Line.{relay_line, FailsSafe};
 ghost use Rattle.train_end.specs.Pulse.{pulse_counts, larger_count, count_speed, pulse_reading, PulseEdges, NeverFalls, RoundedUp};
 ghost use Rattle.train_end.specs.Speed.{in_range};
-ghost use Rattle.std.proofs.Common.{rules, arith};
 
 use crate::brake_line::BrakeLine;
 use crate::end::TrainEnd;
@@ -24,7 +23,7 @@ fn counts(block: &[u8]) -> Option<(u16, u16)>
     let [a, b, c, d] = block else {
         return None;
     };
-    Some((*a as u16 * 256 + *b as u16, *c as u16 * 256 + *d as u16))
+    Some((u16::from_be_bytes([*a, *b]), u16::from_be_bytes([*c, *d])))
 }
 
 // The larger of two counts that differ by at most 3.
@@ -32,27 +31,19 @@ fn larger(pair: (u16, u16)) -> Option<u16>
     ensures { result ≡ larger_count pair }
 {
     let (one, other) = pair;
-    let most = one.max(other);
-    if most - one.min(other) <= 3 {
-        Some(most)
-    } else {
-        None
-    }
+    (one.abs_diff(other) <= 3).then_some(one.max(other))
 }
 
 // 27 × p / 25 rounded up, known for p up to 555.
 fn speed_of(p: u16) -> Option<u16>
     ensures { result ≡ count_speed p }
 {
-    if p <= 555 {
-        Some((27 * p + 24) / 25)
-    } else {
-        None
-    }
+    (p <= 555).then(|| (27 * p).div_ceil(25))
 }
 
 impl PulseEnd {
     // Speed unknown, line at emergency: both relays off.
+    #[tactic(auto, using(crate::proofs::Relays::fails_safe))]
     pub fn new() -> PulseEnd
         ensures speed { result.speed ≡ None }
         ensures line { relay_line result.first_relay result.second_relay ≡ Emergency }
@@ -84,15 +75,15 @@ impl TrainEnd for PulseEnd {
 
     ghost line_of = { λ e. relay_line e.first_relay e.second_relay };
 
-    ghost range = { first_of (Prim.search rules, Prim.grind (arith, Self.row.coded.inj)) };
+    ghost range = { λ e. e.range };
 
     fn give_block(&mut self, block: &[u8]) {
         self.speed = PulseEnd::read(block);
     }
 
     fn set_line(&mut self, line: BrakeLine) {
-        self.first_relay = matches!(line, BrakeLine::Released);
-        self.second_relay = !matches!(line, BrakeLine::Emergency);
+        self.first_relay = line == BrakeLine::Released;
+        self.second_relay = line != BrakeLine::Emergency;
     }
 
     fn speed(&self) -> Option<u16> {

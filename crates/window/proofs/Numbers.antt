@@ -1,91 +1,87 @@
 -- Lines by their number: lists in which no number is there twice.
-use Rattle.std.proofs.Common.{◌≡◌, ℕ, zero, suc, ◌<◌, true, false, not, eqb, List, [], ◌∷◌, length, get_or, Ok, Err, Result, sym, refl, ap, ◌∙◌, subst, arith}
-use Rattle.std.specs.List as holes
-use Rattle.std.proofs.lemmas.Bool.{both_ways, and_parts, and_from, or_parts, or_from, or_left, or_right, not-true, not_from_false, eqb-true, eq-eqb, ne_eqb, cond-true, cond-false, cond_both}
+use Rattle.std.proofs.Common.{◌≡◌, ◌≢◌, ◌==◌, ℕ, zero, suc, ◌<◌, ◌≤◌, Bool, true, false, not, cond, eqb, ltb, Some, None, Ok, Err, Result, position, List, [], ◌∷◌, length, get_or, sym, refl, ap, ◌∙◌, subst, ⊎_elim, arith}
+use Rattle.std.specs.List.{All, remove, position_or_len}
+use Rattle.std.proofs.lemmas.List.Elements.{All-nil, All-cons, All-weaker, All-from_get_or, filter_passes}
+use Rattle.std.proofs.lemmas.List.Folds.{list_any_at, list_any_none}
+use Rattle.std.proofs.lemmas.List.Kept.{AllPairs-cons}
+use Rattle.std.proofs.lemmas.List.Quantifiers.{all_pairs_remove, position-Some}
+use Rattle.std.proofs.lemmas.List.Sums.{fails_before_first}
+use Rattle.std.proofs.lemmas.Option.{none-some}
+use Rattle.std.proofs.lemmas.Bool.{or_parts, not-true, not_from_false, eqb-true, eqb-false, eq-eqb, ne_eqb, lt-ltb, cond-true, cond-false, cases_lt}
 use Rattle.ordering.specs.declared.shelf.Shelf.{Shelf}
 use Rattle.ordering.specs.declared.shelf.ShelfRefusal.{ShelfRefusal}
 use Rattle.ordering.specs.declared.shelf.ShelfRefusal.TheVariants.{NoFreePlace, NoSuchPosition}
-use Rattle.ordering.specs.Order.{Apart}
-use Rattle.ordering.specs.Shelf.{items, TakenOut}
+use Rattle.ordering.specs.Shelf.{items, PutFront, TakenOut}
 use Rattle.window.specs.declared.line.Line.{Line}
-use Rattle.window.specs.Lines.{level, has, removed, numbers_differ}
+use Rattle.window.specs.Lines.{has, removed, NumbersDiffer}
 
--- A line with the number is there.
-pub has-at : (n : ℕ) (xs : List Line) (i : ℕ) (d : Line) → i < length xs → (get_or xs i d).number ≡ n → has n xs ≡ true
-has-at n [] i d within e = absurd (omega arith)
-has-at n (x ∷ xs) zero d within e = or_left (eqb x.number n) (has n xs) (eq-eqb x.number n e)
-has-at n (x ∷ xs) (suc i) d within e = or_right (eqb x.number n) (has n xs) (has-at n xs i d (omega arith) e)
+-- Where a number is not there, each line has another.
+others : (n : ℕ) (xs : List Line) → has n xs ≡ false → All (λ line. n ≢ line.number) xs
+others n [] h = All-nil (λ line. n ≢ line.number)
+others n (x ∷ xs) h =
+    let p = or_parts (eqb x.number n) (has n xs) h in
+    All-cons (λ line. n ≢ line.number) x xs (λ e. eqb-false x.number n p.0 (sym e)) (others n xs p.1)
 
--- Where no place holds the number, it is not there.
-pub has_nowhere : (n : ℕ) (xs : List Line) → ((k : ℕ) (d : Line) → k < length xs → (get_or xs k d).number ≡ n → ⊥) → has n xs ≡ false
-has_nowhere n [] nowhere = refl
-has_nowhere n (x ∷ xs) nowhere = or_from (eqb x.number n) (has n xs) (ne_eqb x.number n (nowhere 0 x (omega arith))) (has_nowhere n xs (λ k d h. nowhere (suc k) d (omega arith)))
+-- The number of the front line is not behind it.
+front_alone : (x : Line) (xs : List Line) → NumbersDiffer (x ∷ xs) → has x.number xs ≡ false
+front_alone x xs differ =
+    list_any_none (λ line. eqb line.number x.number) xs
+    (All-from_get_or (λ line. eqb line.number x.number ≡ false) xs x (λ i l. ne_eqb _ _ (λ e. differ 0 (suc i) x (omega arith) (omega arith) (sym e))))
 
--- The number of the front line is not behind it, and the numbers behind it differ.
-front_differs : (x : Line) (xs : List Line) → numbers_differ (x ∷ xs) ≡ true → (has x.number xs ≡ false) × (numbers_differ xs ≡ true)
-front_differs x xs differ = let p = and_parts (not (has x.number xs)) (numbers_differ xs) differ in (not-true (has x.number xs) p.0, p.1)
+-- A place that is not found is past the end.
+past : (a b : ℕ) → cond (ltb a b) (Some a) None ≡ None → b ≤ a
+past a b h = ⊎_elim (λ below. absurd (none-some a (sym h ∙ cond-true (ltb a b) (Some a) None (lt-ltb a b below)))) (λ upto. upto) (cases_lt a b)
+
+-- Where no place is found, the number is not there.
+pub not_there : (n : ℕ) (xs : List Line) → position (λ line. line.number == n) xs ≡ None → has n xs ≡ false
+not_there n [] h = refl
+not_there n (x ∷ xs) h =
+    let test : Line → Bool = λ line. eqb line.number n in
+    let none : length (x ∷ xs) ≤ position_or_len test (x ∷ xs) = past (position_or_len test (x ∷ xs)) (length (x ∷ xs)) h in
+    list_any_none test (x ∷ xs) (All-from_get_or (λ line. test line ≡ false) (x ∷ xs) x (λ i l. fails_before_first test (x ∷ xs) i x (omega arith)))
 
 -- Removing a number that is not there leaves the lines.
 pub removed-none : (n : ℕ) (xs : List Line) → has n xs ≡ false → removed n xs ≡ xs
 removed-none n [] h = refl
-removed-none n (x ∷ xs) h = let p = or_parts (eqb x.number n) (has n xs) h in cond-false (eqb x.number n) _ _ p.0 ∙ ap (λ ys. x ∷ ys) (removed-none n xs p.1)
+removed-none n (x ∷ xs) h =
+    let p = or_parts (eqb x.number n) (has n xs) h in
+    cond-true (not (eqb x.number n)) _ _ (not_from_false (eqb x.number n) p.0) ∙ ap (λ ys. x ∷ ys) (removed-none n xs p.1)
 
 -- Removing the front line's number leaves the lines behind it.
 pub removed_front : (x : Line) (xs : List Line) → has x.number xs ≡ false → removed x.number (x ∷ xs) ≡ xs
-removed_front x xs h = cond-true (eqb x.number x.number) _ _ (eq-eqb x.number x.number refl) ∙ removed-none x.number xs h
+removed_front x xs h = cond-false (not (eqb x.number x.number)) _ _ (ap (λ b. not b) (eq-eqb x.number x.number refl)) ∙ removed-none x.number xs h
 
 -- Removing the number of the line at a place takes out that line.
-pub removed-at : (n : ℕ) (xs : List Line) (i : ℕ) (d : Line) → numbers_differ xs ≡ true → i < length xs → (get_or xs i d).number ≡ n → holes.remove xs i ≡ removed n xs
+removed-at : (n : ℕ) (xs : List Line) (i : ℕ) (d : Line) → NumbersDiffer xs → i < length xs → eqb (get_or xs i d).number n ≡ true → remove xs i ≡ removed n xs
 removed-at n [] i d differ within e = absurd (omega arith)
-removed-at n (x ∷ xs) zero d differ within e = sym (subst (λ m. removed m (x ∷ xs) ≡ xs) e (removed_front x xs (front_differs x xs differ).0))
+removed-at n (x ∷ xs) zero d differ within e = sym (subst (λ m. removed m (x ∷ xs) ≡ xs) (eqb-true x.number n e) (removed_front x xs (front_alone x xs differ)))
 removed-at n (x ∷ xs) (suc i) d differ within e =
-    let p = front_differs x xs differ in
-    let other : eqb x.number n ≡ false = ne_eqb x.number n (λ same. both_ways (has n xs) (subst (λ m. has m xs ≡ false) same p.0) (has-at n xs i d (omega arith) e)) in
-    ap (λ ys. x ∷ ys) (removed-at n xs i d p.1 (omega arith) e) ∙ sym (cond-false (eqb x.number n) _ _ other)
-
--- A number that is not there is not there after another is removed.
-has-removed : (m n : ℕ) (xs : List Line) → has m xs ≡ false → has m (removed n xs) ≡ false
-has-removed m n [] h = refl
-has-removed m n (x ∷ xs) h =
-    let p = or_parts (eqb x.number m) (has m xs) h in
-    let behind = has-removed m n xs p.1 in
-    cond_both (eqb x.number n) (removed n xs) (x ∷ removed n xs) (λ ys. has m ys ≡ false) (λ _. behind) (λ _. or_from (eqb x.number m) (has m (removed n xs)) p.0 behind)
+    let at = eqb-true (get_or xs i d).number n e in
+    let other : eqb x.number n ≡ false = ne_eqb x.number n (λ same. differ 0 (suc i) d (omega arith) (omega arith) (same ∙ sym at)) in
+    let behind : NumbersDiffer xs = λ j k c h l. differ (suc j) (suc k) c (omega arith) (omega arith) in
+    ap (λ ys. x ∷ ys) (removed-at n xs i d behind (omega arith) e) ∙ sym (cond-true (not (eqb x.number n)) _ _ (not_from_false (eqb x.number n) other))
 
 -- A removed number is gone.
 pub removed-gone : (n : ℕ) (xs : List Line) → has n (removed n xs) ≡ false
-removed-gone n [] = refl
-removed-gone n (x ∷ xs) =
-    cond_both (eqb x.number n) (removed n xs) (x ∷ removed n xs) (λ ys. has n ys ≡ false) (λ _. removed-gone n xs) (λ other. or_from (eqb x.number n) (has n (removed n xs)) other (removed-gone n xs))
+removed-gone n xs =
+    list_any_none (λ line. eqb line.number n) (removed n xs)
+    (All-weaker (λ line. not (eqb line.number n) ≡ true) (λ line. eqb line.number n ≡ false) (λ line h. not-true (eqb line.number n) h) (removed n xs) (filter_passes (λ line. not (eqb line.number n)) xs))
 
--- Numbers that differ still do when one is removed.
-differ_removed : (n : ℕ) (xs : List Line) → numbers_differ xs ≡ true → numbers_differ (removed n xs) ≡ true
-differ_removed n [] differ = refl
-differ_removed n (x ∷ xs) differ =
-    let p = front_differs x xs differ in
-    let behind = differ_removed n xs p.1 in
-    cond_both (eqb x.number n) (removed n xs) (x ∷ removed n xs) (λ ys. numbers_differ ys ≡ true) (λ _. behind)
-    (λ _. and_from (not (has x.number (removed n xs))) (numbers_differ (removed n xs)) (not_from_false (has x.number (removed n xs)) (has-removed x.number n xs p.0)) behind)
+-- Numbers that differ still do after the shelf put a line with a new one in front, or refused it.
+pub differ_put : (m n : Shelf Line) (x : Line) (r : Result (Unit {0}) ShelfRefusal) → PutFront m n x r → has x.number (items m) ≡ false → NumbersDiffer (items m) → NumbersDiffer (items n)
+differ_put m n x (Ok u) h new differ = subst (λ xs. NumbersDiffer xs) (sym h.1) (AllPairs-cons (λ a b. a.number ≢ b.number) x (items m) (others x.number (items m) new) differ)
+differ_put m n x (Err NoFreePlace) h new differ = subst (λ s. NumbersDiffer (items s)) (sym h.1) differ
+differ_put m n x (Err NoSuchPosition) h new differ = absurd h
 
--- Lines with one cycle and one number have one number.
-level_number_lem : (x y : Line) → level x y ≡ true → y.number ≡ x.number
-level_number_lem x y h = sym (eqb-true x.number y.number (and_parts (eqb x.cycle y.cycle) (eqb x.number y.number) h).1)
+-- And after it took a line out, or refused.
+pub differ_taken : (m n : Shelf Line) (p : ℕ) (r : Result Line ShelfRefusal) → TakenOut m n p r → NumbersDiffer (items m) → NumbersDiffer (items n)
+differ_taken m n p (Ok x) h differ = subst (λ xs. NumbersDiffer xs) (sym h.2) (all_pairs_remove (λ a b. a.number ≢ b.number) (items m) p h.0 differ)
+differ_taken m n p (Err NoSuchPosition) h differ = subst (λ s. NumbersDiffer (items s)) (sym h.1) differ
+differ_taken m n p (Err NoFreePlace) h differ = absurd h
 
--- Lines whose numbers differ are not the same in the order.
-pub differ_apart : (xs : List Line) → numbers_differ xs ≡ true → Apart level xs
-differ_apart [] differ j k d jn kn s = absurd (omega arith)
-differ_apart (x ∷ xs) differ zero zero d jn kn s = refl
-differ_apart (x ∷ xs) differ zero (suc k) d jn kn s =
-    absurd (both_ways (has x.number xs) (front_differs x xs differ).0 (has-at x.number xs k d (omega arith) (level_number_lem x (get_or xs k d) s)))
-differ_apart (x ∷ xs) differ (suc j) zero d jn kn s =
-    absurd (both_ways (has x.number xs) (front_differs x xs differ).0 (has-at x.number xs j d (omega arith) (sym (level_number_lem (get_or xs j d) x s))))
-differ_apart (x ∷ xs) differ (suc j) (suc k) d jn kn s = ap (λ m. suc m) (differ_apart xs (front_differs x xs differ).1 j k d (omega arith) (omega arith) s)
-
--- After the line at a place that holds the number is taken off the shelf, the lines are those without the number.
-pub taken_removed : (m n : Shelf Line) (number p : ℕ) (r : Result Line ShelfRefusal) → TakenOut m n p r → numbers_differ (items m) ≡ true → p < length (items m) → ((d : Line) → (get_or (items m) p d).number ≡ number) → items n ≡ removed number (items m)
-taken_removed m n number p (Ok x) h differ within at = h.2 ∙ removed-at number (items m) p x differ within (at x)
-taken_removed m n number p (Err NoSuchPosition) h differ within at = absurd (omega arith)
-taken_removed m n number p (Err NoFreePlace) h differ within at = absurd h
-
--- Their numbers then differ.
-pub differ_taken : (m n : Shelf Line) (number p : ℕ) (r : Result Line ShelfRefusal) → TakenOut m n p r → numbers_differ (items m) ≡ true → p < length (items m) → ((d : Line) → (get_or (items m) p d).number ≡ number) → numbers_differ (items n) ≡ true
-differ_taken m n number p r h differ within at = subst (λ xs. numbers_differ xs ≡ true) (sym (taken_removed m n number p r h differ within at)) (differ_removed number (items m) differ)
+-- The line taken out at the place of a number leaves the lines without it.
+pub taken : (m n : Shelf Line) (number p : ℕ) (x : Line) → position (λ line. line.number == number) (items m) ≡ Some p → TakenOut m n p (Ok x) → NumbersDiffer (items m) → (has number (items m) ≡ true) × (items n ≡ removed number (items m))
+taken m n number p x found h differ =
+    let test : Line → Bool = λ line. eqb line.number number in
+    let at = position-Some test (items m) p x found in
+    (list_any_at test (items m) p x at.0 at.1, h.2 ∙ removed-at number (items m) p x differ at.0 at.1)

@@ -1,5 +1,6 @@
 -- What the calls of a message window answer and leave.
-use Rattle.std.specs.Prelude.{ℕ, zero, suc, ◌+◌, cond, List, [], ◌∷◌, length, take, drop, is_ok, Ok, Err, Result, nat_le, nat_lt}
+use Rattle.std.specs.Prelude.{ℕ, ◌+◌, cond, List, ◌∷◌, length, take, drop, is_ok, Ok, Err, Result, nat_le, nat_lt, slice_get}
+use Rattle.std.specs.Option.{option_map_or}
 use Rattle.std.specs.Borrow.{Bor}
 use Rattle.ordering.specs.Shelf.{items, places}
 use Rattle.window.specs.declared.Window.{Window}
@@ -34,9 +35,7 @@ part_of line store = cond (nat_le (line.place + line.length) (length store)) (Ok
 
 -- What `show` answers at a position.
 abbrev pub shown : List Line → ℕ → List ℕ → Result (List ℕ) Refusal
-shown [] k store = Err NoSuchLine
-shown (line ∷ rest) zero store = part_of line store
-shown (line ∷ rest) (suc k) store = shown rest k store
+shown xs k store = option_map_or (λ line. part_of line store) (slice_get xs k) (Err NoSuchLine)
 
 -- An answer with the bytes that its reference points to.
 abbrev pub handed : Result (Bor (List ℕ)) Refusal → Result (List ℕ) Refusal

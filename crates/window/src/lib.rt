@@ -1,9 +1,8 @@
 // The message window: lines of text on a lent slice, the choice of the top line, and the part of a store that a line shows.
 #![tactic(auto)]
 
-ghost use Rattle.std.specs.Prelude.{◌≡◌, true};
 ghost use Rattle.ordering.specs.Shelf.{items};
-ghost use Rattle.window.specs.Lines.{numbers_differ};
+ghost use Rattle.window.specs.Lines.{NumbersDiffer};
 
 use line::Line;
 use ordering::shelf::Shelf;
@@ -18,5 +17,5 @@ mod tests;
 #[derive(Drop)]
 pub struct Window<'a> {
     shelf: Shelf<'a, Line>,
-    ghost distinct: { numbers_differ (items shelf) ≡ true },
+    ghost distinct: { NumbersDiffer (items shelf) },
 }

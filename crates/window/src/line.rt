@@ -3,6 +3,7 @@ ghost use Rattle.window.specs.Lines.{newer, level};
 ghost use Rattle.std.proofs.Common.{rules};
 
 use ordering::order::Ordered;
+use std::cmp::Reverse;
 
 #[derive(Clone, Copy, PartialEq, Eq, Debug)]
 pub struct Line {
@@ -23,6 +24,6 @@ impl Ordered for Line {
     ghost carries = { Prim.search rules };
 
     fn is_before(&self, other: &Line) -> bool {
-        self.cycle > other.cycle || (self.cycle == other.cycle && self.number < other.number)
+        (Reverse(self.cycle), self.number) < (Reverse(other.cycle), other.number)
     }
 }

@@ -1,37 +1,34 @@
 // Why a call of the window was refused.
 ghost use Rattle.std.specs.Prelude.{◌≡◌, Some};
-ghost use Rattle.window.specs.Refusals.{refusal_number, refusal_text};
+ghost use Rattle.window.specs.Refusals.{refusal_number, refusal_text, refusal_of};
 
+use ordering::shelf::ShelfRefusal;
 use std::fmt;
 
 #[derive(Clone, Copy, PartialEq, Eq, Debug)]
 pub enum Refusal {
-    NoFreeLine,
-    NumberThere,
-    NoSuchLine,
-    OutsideStore,
+    NoFreeLine = 50,
+    NumberThere = 51,
+    NoSuchLine = 52,
+    OutsideStore = 53,
 }
 
 impl Refusal {
     pub fn number(&self) -> u8
         ensures { result ≡ refusal_number self.now }
     {
-        match self {
-            Refusal::NoFreeLine => 50,
-            Refusal::NumberThere => 51,
-            Refusal::NoSuchLine => 52,
-            Refusal::OutsideStore => 53,
-        }
+        *self as u8
     }
+}
 
-    fn text(&self) -> &'static str
-        ensures { result.now ≡ refusal_text self.now }
-    {
-        match self {
-            Refusal::NoFreeLine => "No line is free.",
-            Refusal::NumberThere => "The number is there already.",
-            Refusal::NoSuchLine => "There is no such line.",
-            Refusal::OutsideStore => "The text lies outside the store.",
+// A shelf that is full has no free line; a position that it lacks is no line.
+impl From<ShelfRefusal> for Refusal {
+    ghost from_gives = { λ why r. r ≡ refusal_of why };
+
+    fn from(why: ShelfRefusal) -> Refusal {
+        match why {
+            ShelfRefusal::NoFreePlace => Refusal::NoFreeLine,
+            ShelfRefusal::NoSuchPosition => Refusal::NoSuchLine,
         }
     }
 }
@@ -40,6 +37,11 @@ impl fmt::Display for Refusal {
     ghost output = { λ r. Some (refusal_text r) };
 
     fn fmt<W: fmt::Write>(&self, f: &mut fmt::Formatter<W>) -> fmt::Result {
-        f.write_str(self.text())
+        f.write_str(match self {
+            Refusal::NoFreeLine => "No line is free.",
+            Refusal::NumberThere => "The number is there already.",
+            Refusal::NoSuchLine => "There is no such line.",
+            Refusal::OutsideStore => "The text lies outside the store.",
+        })
     }
 }

@@ -1,42 +1,42 @@
-use Rattle.std.proofs.Common.{◌≡◌, true, false, sym, refl, ap, ◌∙◌}
-use Rattle.std.proofs.lemmas.Bool.{cond-true, cond-false, both_ways}
+use Rattle.std.proofs.Common.{◌≡◌, false, None, Some, sym, ap, ◌∙◌, arith}
+use Rattle.std.proofs.lemmas.Bool.{cond-true}
+use Rattle.std.proofs.lemmas.Grind.{common_steps}
 use Rattle.window.specs.Lines.{has}
 use Rattle.window.specs.Window.{lines}
-use Rattle.window.proofs.Numbers.{has-at, removed-none, removed-gone, taken_removed, differ_taken}
+use Rattle.window.proofs.Numbers.{not_there, removed-none, removed-gone, differ_taken, taken}
 use Rattle.window.proofs.Window.remove.Goals as goal
 
-pub returns-in_default : goal.returns-in_default
-returns-in_default c =
-    let w = c.args.self.now in
-    let none : has c.args.number (lines w) ≡ false = simp c.lines.ensures at c.in_default.ensures.place in
-    record {
-      room = refl;
-      lent = refl;
-      answer = sym (cond-false _ _ _ none);
-      after = sym (removed-none c.args.number (lines w) none);
-      refused = λ _. refl;
-      gone = none;
-    }
+pub returns-in_err-place-clause-gone : goal.returns-in_err-place-clause-gone
+returns-in_err-place-clause-gone c =
+    let none : c.place_of.result ≡ None = grind arith in
+    not_there c.args.number (lines c.args.self.now) (sym (simp c.lines.ensures at c.place_of.ensures) ∙ none)
+
+pub returns-in_err-place-clause-answer : goal.returns-in_err-place-clause-answer
+returns-in_err-place-clause-answer c =
+    let gone : has c.args.number (lines c.args.self.now) ≡ false = returns-in_err-place-clause-gone c in
+    grind (arith, common_steps)
+
+pub returns-in_err-place-clause-after : goal.returns-in_err-place-clause-after
+returns-in_err-place-clause-after c = sym (removed-none c.args.number (lines c.args.self.now) (returns-in_err-place-clause-gone c))
 
 pub invariant_of-self : goal.invariant_of-self
 invariant_of-self c =
     let w = c.args.self.now in
-    let found = simp c.lines.ensures at c.in-Some.ensures.place in
-    record { distinct = differ_taken w.shelf c.take_out.new.self c.args.number c.in-Some.i c.take_out.result c.take_out.ensures.cases w.distinct found.0 found.1 }
+    record { distinct = differ_taken w.shelf c.take_out.new.self c.in_ok-place.place c.take_out.result c.take_out.ensures.cases w.distinct }
 
-pub returns-in-Ok : goal.returns-in-Ok
-returns-in-Ok c =
+pub returns-clause-answer : goal.returns-clause-answer
+returns-clause-answer c =
     let w = c.args.self.now in
-    let number = c.args.number in
-    let found = simp c.lines.ensures at c.in-Some.ensures.place in
-    let line = c.in-Ok.field-0 in
-    let there : has number (lines w) ≡ true = has-at number (lines w) c.in-Some.i line found.0 (found.1 line) in
-    let after = taken_removed w.shelf c.take_out.new.self number c.in-Some.i c.take_out.result c.take_out.ensures.cases w.distinct found.0 found.1 in
-    record {
-      room = c.take_out.ensures.room;
-      lent = c.take_out.ensures.lent;
-      answer = sym (cond-true _ _ _ there);
-      after = after;
-      refused = λ bad. absurd (both_ways true bad refl);
-      gone = ap (λ xs. has number xs) after ∙ removed-gone number (lines w);
-    }
+    let found : c.place_of.result ≡ Some c.in_ok-place.place = grind arith in
+    let t = taken w.shelf c.take_out.new.self c.args.number c.in_ok-place.place c.in_ok-take_out.field-0 (sym (simp c.lines.ensures at c.place_of.ensures) ∙ found) c.in_ok-take_out.ensures.cases w.distinct in
+    sym (cond-true _ _ _ t.0)
+
+pub returns-clause-after : goal.returns-clause-after
+returns-clause-after c =
+    let w = c.args.self.now in
+    let found : c.place_of.result ≡ Some c.in_ok-place.place = grind arith in
+    let t = taken w.shelf c.take_out.new.self c.args.number c.in_ok-place.place c.in_ok-take_out.field-0 (sym (simp c.lines.ensures at c.place_of.ensures) ∙ found) c.in_ok-take_out.ensures.cases w.distinct in
+    t.1
+
+pub returns-clause-gone : goal.returns-clause-gone
+returns-clause-gone c = ap (λ xs. has c.args.number xs) (returns-clause-after c) ∙ removed-gone c.args.number (lines c.args.self.now)
