@@ -26,9 +26,7 @@ fn word_end(text: &[u8]) -> usize
     ensures value { result ≡ position_or_len is_blank text.now }
     ensures within { result ≤ length text.now }
 {
-    text.iter()
-        .position(|b| is_blank(*b))
-        .unwrap_or(text.len())
+    text.iter().position(|b| is_blank(*b)).unwrap_or(text.len())
 }
 
 // The first word of a text, empty where there is none, and what stands after it.

@@ -9,7 +9,7 @@ returns-in_err-note_line-clause-reads c =
     let p = err_from_is_err_and c.from_residual.result c.from_residual.ensures.1 in
     rw (p.1, p.2)
     (list_bad (vec_items c.loop-rest.listed) c.loop-rest.number c.loop-rest.rest.now c.args.text.now c.loop-rest.invariant.0
-        (vec_items c.note_line.new.listed) c.split_line.result.0.now c.in_err-note_line.field-0.0 l c.split_line.ensures.line c.in_err-note_line.ensures.noted)
+    (vec_items c.note_line.new.listed) c.split_line.result.0.now c.in_err-note_line.field-0.0 l c.split_line.ensures.line c.in_err-note_line.ensures.noted)
 
 pub returns-in_err-note_line-clause-value : goal.returns-in_err-note_line-clause-value
 returns-in_err-note_line-clause-value c =
@@ -17,7 +17,7 @@ returns-in_err-note_line-clause-value c =
     let p = err_from_is_err_and c.from_residual.result c.from_residual.ensures.1 in
     rw (p.1, p.2)
     (list_wants (vec_items c.loop-rest.listed) c.loop-rest.number c.loop-rest.rest.now c.args.text.now c.loop-rest.invariant.0
-        (vec_items c.note_line.new.listed) c.split_line.result.0.now c.in_err-note_line.field-0.0 l c.split_line.ensures.line c.loop-rest.invariant.2 c.in_err-note_line.ensures.value)
+    (vec_items c.note_line.new.listed) c.split_line.result.0.now c.in_err-note_line.field-0.0 l c.split_line.ensures.line c.loop-rest.invariant.2 c.in_err-note_line.ensures.value)
 
 pub loop-rest-smaller : goal.loop-rest-smaller
 loop-rest-smaller c =

@@ -10,9 +10,10 @@ pub returns-then-next-limit : goal.returns-then-next-limit
 returns-then-next-limit c = digits_fail c.args.limit c.loop-b.value c.args.word.now c.loop-b.b-index _ c.loop-b.invariant.1 (omega arith) (grind (arith, nat_tests))
 
 pub loop-b-preserved : goal.loop-b-preserved
-loop-b-preserved c =
-    (omega arith,
-      digits_more c.args.limit c.loop-b.value c.args.word.now c.loop-b.b-index _ c.loop-b.invariant.1 (omega arith) (grind (arith, nat_tests)) (grind (arith, nat_tests)) (omega arith))
+loop-b-preserved c = (
+  omega arith,
+  digits_more c.args.limit c.loop-b.value c.args.word.now c.loop-b.b-index _ c.loop-b.invariant.1 (omega arith) (grind (arith, nat_tests)) (grind (arith, nat_tests)) (omega arith),
+)
 
 pub returns : goal.returns
 returns c = digits_end _ _ c.args.word.now c.loop-b.b-index _ c.loop-b.invariant.1 (omega arith)
