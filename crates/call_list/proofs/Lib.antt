@@ -1,6 +1,4 @@
-mod Places
 mod Pairs
-mod Counts
 mod Decimals
 mod Texts
-mod Names
+mod Places

@@ -1,10 +1,11 @@
 -- A text line by line, and the calls kept so far.
-use Rattle.std.proofs.Common.{◌≡◌, ℕ, suc, ◌+◌, ◌<◌, Bool, true, false, ◌&&◌, ◌||◌, List, [], ◌∷◌, ◌++◌, map, length, Ok, Err, Result, sym, refl, ap, ◌∙◌, subst, inl, inr, append_assoc, append-nil, arith, length-drop}
+use Rattle.std.proofs.Common.{◌≡◌, ℕ, suc, ◌+◌, ◌<◌, Bool, true, false, ◌&&◌, ◌||◌, List, [], ◌∷◌, ◌++◌, map, length, take, drop, Ok, Err, sym, refl, ap, ◌∙◌, subst, inl, inr, append_assoc, append-nil, arith, length-drop}
 use Rattle.std.proofs.lemmas.Bool.{cases_Bool, or_left, or_right}
 use Rattle.std.proofs.lemmas.List.{map_push, nil_from_length}
-use Rattle.call_list.specs.Words.{is_break, place_of, word_of}
+use Rattle.std.specs.List.{position_or_len}
+use Rattle.call_list.specs.Words.{is_break, word_of}
 use Rattle.call_list.specs.Lines.{LineValue, passed, cycle, telegram, press, draft, order, wrong, verb_of, line_of, value_of, has_bytes}
-use Rattle.call_list.specs.Lists.{on_first, lines_of, first_line, after_line, ListValue, calls, bad_line, behind, with_line, list_from, list_of, located, is_call, is_passed, takes_memory, may_want, Kept, Noted, NotedOrWantsMemory, ReadsList, ReadsListOrWantsMemory}
+use Rattle.call_list.specs.Lists.{on_first, lines_of, first_line, after_line, ListValue, calls, bad_line, behind, with_line, list_from, list_of, located, is_call, is_passed, takes_memory, may_want, Noted, NotedOrWantsMemory, ReadsList, ReadsListOrWantsMemory}
 use Rattle.call_list.specs.declared.entry.Entry.{Entry}
 use Rattle.call_list.specs.declared.entry.Entry.TheVariants.{Cycle, Telegram, Press, Record, Order}
 use Rattle.call_list.specs.declared.entry.Wrong.{Wrong}
@@ -12,17 +13,41 @@ use Rattle.call_list.specs.declared.listed.Listed.{Listed}
 use Rattle.call_list.specs.declared.listed.ListFault.{ListFault}
 use Rattle.call_list.specs.declared.listed.ListFault.TheVariants.{Line, NoMemory}
 
+-- one byte more in front of a line
+module _ (b : ℕ) (text : List ℕ) (e : is_break b ≡ false) where
+  place-more : position_or_len is_break (b ∷ text) ≡ suc (position_or_len is_break text)
+  place-more =
+      let f : 1 + position_or_len is_break text ≡ suc (position_or_len is_break text) = omega arith in
+      simp (e, f)
+
+  lines-more : lines_of (b ∷ text) ≡ on_first b (lines_of text)
+  lines-more = simp e
+
+  first-more : first_line (b ∷ text) ≡ b ∷ first_line text
+  first-more = ap (λ n. take n (b ∷ text)) place-more
+
+  after-more : after_line (b ∷ text) ≡ after_line text
+  after-more = ap (λ n. drop (suc n) (b ∷ text)) place-more
+
 -- a text that is not empty is its first line and the lines after it
 pub lines_split : (text : List ℕ) → 0 < length text → lines_of text ≡ first_line text ∷ lines_of (after_line text)
 lines_split [] l = absurd (omega arith)
-lines_split (b ∷ []) l = elim (cases_Bool (is_break b)) [ inl e ↦ simp e | inr e ↦ simp e ]
+lines_split (b ∷ []) l = elim (cases_Bool (is_break b)) [
+  | inl e ↦ simp e
+  | inr e ↦
+      lines-more b [] e ∙ ap (λ x. x ∷ lines_of (after_line [])) (sym (first-more b [] e))
+      ∙ ap (λ x. first_line (b ∷ []) ∷ lines_of x) (sym (after-more b [] e))
+]
 lines_split (b ∷ c ∷ text) l = elim (cases_Bool (is_break b)) [
   | inl e ↦ simp e
-  | inr e ↦ simp e (ap (on_first b) (lines_split (c ∷ text) (omega arith)))
+  | inr e ↦
+      lines-more b (c ∷ text) e ∙ ap (on_first b) (lines_split (c ∷ text) (omega arith))
+      ∙ ap (λ x. x ∷ lines_of (after_line (c ∷ text))) (sym (first-more b (c ∷ text) e))
+      ∙ ap (λ x. first_line (b ∷ c ∷ text) ∷ lines_of x) (sym (after-more b (c ∷ text) e))
 ]
 
 pub after_line_shorter : (text : List ℕ) → 0 < length text → length (after_line text) < length text
-after_line_shorter text l = rw (length-drop (suc (place_of is_break text)) text) (omega arith)
+after_line_shorter text l = rw (length-drop (suc (position_or_len is_break text)) text) (omega arith)
 
 behind-behind : (xs ys : List (ℕ × LineValue)) (rest : ListValue) → behind (xs ++ ys) rest ≡ behind xs (behind ys rest)
 behind-behind xs ys (calls more) = ap calls (append_assoc xs ys more)
@@ -44,22 +69,18 @@ entry-call (Press b) = refl
 entry-call (Record driver length percentage speed) = refl
 entry-call (Order o) = refl
 
-pub kept_noted : (one : Listed) (value : LineValue) (before after : List Listed) (r : Result Unit ListFault) →
-    value ≡ value_of one.entry → Kept one before after r → Noted one.line value before after r
-kept_noted one value before after (Ok done) e kept = λ rest.
+-- a call that is kept behind those before it
+pub noted_call : (n : ℕ) (e : Entry) (value : LineValue) (before after : List Listed) → value ≡ value_of e →
+    after ≡ before ++ (record { line = n; entry = e }) ∷ [] → Noted n value before after (Ok tt)
+noted_call n e value before after is kept = λ rest.
     ap (λ xs. behind (map located xs) rest) kept
-    ∙ ap (λ xs. behind xs rest) (map_push located before one)
-    ∙ behind-behind (map located before) (located one ∷ []) rest
-    ∙ ap (behind (map located before)) (sym (entry-line one.line one.entry rest) ∙ ap (λ v. with_line one.line v rest) (sym e))
-kept_noted one value before after (Err (Line m w)) e kept = absurd kept
-kept_noted one value before after (Err NoMemory) e kept = tt
+    ∙ ap (λ xs. behind xs rest) (map_push located before (record { line = n; entry = e }))
+    ∙ behind-behind (map located before) ((n, value_of e) ∷ []) rest
+    ∙ ap (behind (map located before)) (sym (entry-line n e rest) ∙ ap (λ v. with_line n v rest) (sym is))
 
 -- a call that is kept takes memory
-pub kept_or_wants : (one : Listed) (line : List ℕ) (before after : List Listed) (r : Result Unit ListFault) →
-    line_of line ≡ value_of one.entry → Kept one before after r → NotedOrWantsMemory one.line line before after r
-kept_or_wants one line before after (Ok done) e kept = kept_noted one (line_of line) before after (Ok done) e kept
-kept_or_wants one line before after (Err (Line m w)) e kept = absurd kept
-kept_or_wants one line before after (Err NoMemory) e kept = or_right (has_bytes (verb_of (word_of line))) _ (ap is_call e ∙ entry-call one.entry)
+pub call_takes : (e : Entry) (line : List ℕ) → line_of line ≡ value_of e → takes_memory line ≡ true
+call_takes e line is = or_right (has_bytes (verb_of (word_of line))) _ (ap is_call is ∙ entry-call e)
 
 -- a list of calls is no bad line
 abbrev HasCalls : ListValue → Type 0

@@ -14,11 +14,6 @@ wrong_text UnknownOrder = codes "no such order"
 wrong_text UnknownMode = codes "no such mode"
 wrong_text NeitherWantedNorShown = codes "a text is wanted or shown"
 
--- the value, or what is wrong where there is none
-abbrev pub or_wrong : {T : Type 0} → Wrong → Option T → Result T Wrong
-or_wrong w None = Err w
-or_wrong w (Some value) = Ok value
-
 -- a step that goes on from a value
 abbrev pub then : {T U : Type 0} → Result T Wrong → (T → Result U Wrong) → Result U Wrong
 then (Err w) step = Err w

@@ -26,15 +26,15 @@ pub data LineValue : Type 0 where
   wrong : Wrong → LineValue
 
 -- an empty word begins a blank line, and # (35) a comment
-abbrev pub verb_of : List ℕ → Verb
+abbrev pub verb_of : List ℕ → Result (Option Verb) Wrong
 verb_of word =
-    cond (is_empty word || slice_index word 0 == 35) verbs.Nothing
-    (cond (bytes_eq word (codes "cycle")) verbs.Cycle
-    (cond (bytes_eq word (codes "telegram")) verbs.Telegram
-    (cond (bytes_eq word (codes "press")) verbs.Press
-    (cond (bytes_eq word (codes "record")) verbs.Record
-    (cond (bytes_eq word (codes "order")) verbs.Order
-    verbs.Unknown)))))
+    cond (is_empty word || slice_index word 0 == 35) (Ok None)
+    (cond (bytes_eq word (codes "cycle")) (Ok (Some verbs.Cycle))
+    (cond (bytes_eq word (codes "telegram")) (Ok (Some verbs.Telegram))
+    (cond (bytes_eq word (codes "press")) (Ok (Some verbs.Press))
+    (cond (bytes_eq word (codes "record")) (Ok (Some verbs.Record))
+    (cond (bytes_eq word (codes "order")) (Ok (Some verbs.Order))
+    (Err UnknownCall))))))
 
 abbrev pub unless : Option Wrong → LineValue → LineValue
 unless None value = value
@@ -82,14 +82,14 @@ record_line rest =
 abbrev pub order_line : List ℕ → LineValue
 order_line rest = with_value (order_of rest) order
 
-abbrev pub by_verb : Verb → List ℕ → LineValue
-by_verb verbs.Nothing rest = passed
-by_verb verbs.Cycle rest = cycle_line rest
-by_verb verbs.Telegram rest = telegram_line rest
-by_verb verbs.Press rest = press_line rest
-by_verb verbs.Record rest = record_line rest
-by_verb verbs.Order rest = order_line rest
-by_verb verbs.Unknown rest = wrong UnknownCall
+abbrev pub by_verb : Result (Option Verb) Wrong → List ℕ → LineValue
+by_verb (Ok None) rest = passed
+by_verb (Ok (Some verbs.Cycle)) rest = cycle_line rest
+by_verb (Ok (Some verbs.Telegram)) rest = telegram_line rest
+by_verb (Ok (Some verbs.Press)) rest = press_line rest
+by_verb (Ok (Some verbs.Record)) rest = record_line rest
+by_verb (Ok (Some verbs.Order)) rest = order_line rest
+by_verb (Err w) rest = wrong w
 
 abbrev pub line_of : List ℕ → LineValue
 line_of line = by_verb (verb_of (word_of line)) (after_word line)
@@ -120,20 +120,19 @@ ReadsBytes items value (Err (Bad w)) = (value ≡ None) × (w ≡ NotHexadecimal
 ReadsBytes items value (Err NoMemory) = Unit {0}
 
 -- an entry is read from a line that has no bytes: memory is not wanting there
-abbrev pub ReadsEntry : LineValue → Result Entry LineFault → Type 0
+abbrev pub ReadsEntry : LineValue → Result Entry Wrong → Type 0
 ReadsEntry value (Ok entry) = value ≡ value_of entry
-ReadsEntry value (Err (Bad w)) = value ≡ wrong w
-ReadsEntry value (Err NoMemory) = ⊥
+ReadsEntry value (Err w) = value ≡ wrong w
 
 -- the calls that have bytes, which take memory
-abbrev pub has_bytes : Verb → Bool
-has_bytes verbs.Nothing = false
-has_bytes verbs.Cycle = true
-has_bytes verbs.Telegram = true
-has_bytes verbs.Press = false
-has_bytes verbs.Record = false
-has_bytes verbs.Order = false
-has_bytes verbs.Unknown = false
+abbrev pub has_bytes : Result (Option Verb) Wrong → Bool
+has_bytes (Ok None) = false
+has_bytes (Ok (Some verbs.Cycle)) = true
+has_bytes (Ok (Some verbs.Telegram)) = true
+has_bytes (Ok (Some verbs.Press)) = false
+has_bytes (Ok (Some verbs.Record)) = false
+has_bytes (Ok (Some verbs.Order)) = false
+has_bytes (Err w) = false
 
 -- a line is read, and memory is wanting only where its call has bytes
 abbrev pub ReadsLineOrWantsMemory : List ℕ → Result (Option Entry) LineFault → Type 0

@@ -1,7 +1,8 @@
 -- What a whole call list says.
 use Rattle.std.specs.Prelude.{◌≡◌, ℕ, suc, ◌+◌, Bool, true, false, cond, ◌&&◌, ◌||◌, List, [], ◌∷◌, ◌++◌, map, take, drop, Ok, Err, vec_items, Result, Vec}
+use Rattle.std.specs.List.{position_or_len}
 use Rattle.std.specs.declared.alloc.Global.{Global}
-use Rattle.call_list.specs.Words.{is_break, place_of, word_of}
+use Rattle.call_list.specs.Words.{is_break, word_of}
 use Rattle.call_list.specs.Lines.{LineValue, passed, cycle, telegram, press, draft, order, wrong, verb_of, line_of, value_of, has_bytes}
 use Rattle.call_list.specs.declared.entry.Wrong.{Wrong}
 use Rattle.call_list.specs.declared.listed.Listed.{Listed}
@@ -19,10 +20,10 @@ lines_of [] = []
 lines_of (b ∷ text) = cond (is_break b) ([] ∷ lines_of text) (on_first b (lines_of text))
 
 abbrev pub first_line : List ℕ → List ℕ
-first_line text = take (place_of is_break text) text
+first_line text = take (position_or_len is_break text) text
 
 abbrev pub after_line : List ℕ → List ℕ
-after_line text = drop (suc (place_of is_break text)) text
+after_line text = drop (suc (position_or_len is_break text)) text
 
 -- the calls with the numbers of their lines, or the first bad line
 pub data ListValue : Type 0 where
@@ -52,12 +53,6 @@ list_of text = list_from 1 (lines_of text)
 
 abbrev pub located : Listed → ℕ × LineValue
 located l = (l.line, value_of l.entry)
-
--- one call is kept behind those before it
-abbrev pub Kept : Listed → List Listed → List Listed → Result Unit ListFault → Type 0
-Kept one before after (Ok done) = after ≡ before ++ one ∷ []
-Kept one before after (Err (Line m w)) = ⊥
-Kept one before after (Err NoMemory) = Unit {0}
 
 -- the line with the number n is read, and its call kept behind those before it
 abbrev pub Noted : ℕ → LineValue → List Listed → List Listed → Result Unit ListFault → Type 0

@@ -1,6 +1,6 @@
 -- Decimal numbers.
 use Rattle.std.specs.Prelude.{◌≡◌, ℕ, ◌+◌, ◌-◌, ◌*◌, ◌≤◌, Bool, cond, ◌&&◌, List, [], ◌∷◌, Some, None, decimal, Option, Result, nat_le}
-use Rattle.call_list.specs.Faults.{or_wrong}
+use Rattle.std.specs.Option.{ok_or}
 use Rattle.call_list.specs.Words.{is_empty}
 use Rattle.call_list.specs.declared.entry.Wrong.{Wrong}
 use Rattle.call_list.specs.declared.entry.Wrong.TheVariants.{NotANumber}
@@ -28,4 +28,4 @@ abbrev pub ReadsWritten : ℕ → List ℕ → Option ℕ → Type 0
 ReadsWritten limit word r = (n : ℕ) → n ≤ limit → word ≡ decimal n → r ≡ Some n
 
 abbrev pub number_wanted : ℕ → List ℕ → Result ℕ Wrong
-number_wanted limit word = or_wrong NotANumber (number_of limit word)
+number_wanted limit word = ok_or (number_of limit word) NotANumber

@@ -1,10 +1,11 @@
 -- An order that comes from no telegram: its name, and the words after it.
 use Rattle.std.specs.Prelude.{◌≡◌, ℕ, Bool, true, false, cond, List, [], Ok, Err, codes, Result}
+use Rattle.std.specs.Option.{ok_or}
 use Rattle.std.specs.Str.{bytes_eq}
 use Rattle.telegram.specs.Format.{OrderValue, authority, level, text, withdrawal, stop, sign, permission, value_of}
 use Rattle.telegram.specs.declared.modes.Mode.{Mode}
 use Rattle.telegram.specs.declared.orders.Order.{Order}
-use Rattle.call_list.specs.Faults.{or_wrong, then, barring}
+use Rattle.call_list.specs.Faults.{then, barring}
 use Rattle.call_list.specs.Modes.{mode_of}
 use Rattle.call_list.specs.Numbers.{number_wanted}
 use Rattle.call_list.specs.Words.{word_of, after_word, is_empty, count_fault}
@@ -36,7 +37,7 @@ words_after Permission = 0
 words_after Sign = 0
 
 abbrev pub mode_wanted : List ℕ → Result Mode Wrong
-mode_wanted word = or_wrong UnknownMode (mode_of word)
+mode_wanted word = ok_or (mode_of word) UnknownMode
 
 abbrev pub wanted_of : List ℕ → Result Bool Wrong
 wanted_of word =

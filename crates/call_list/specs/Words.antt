@@ -1,5 +1,6 @@
 -- The words of a text.
-use Rattle.std.specs.Prelude.{ℕ, zero, suc, Bool, cond, not, ◌||◌, List, [], ◌∷◌, length, take, drop, Some, None, Option, ◌==◌}
+use Rattle.std.specs.Prelude.{ℕ, zero, suc, Bool, cond, not, ◌||◌, List, length, take, drop, Some, None, Option, ◌==◌}
+use Rattle.std.specs.List.{position_or_len}
 use Rattle.call_list.specs.declared.entry.Wrong.{Wrong}
 use Rattle.call_list.specs.declared.entry.Wrong.TheVariants.{MissingWord, ExtraWord}
 
@@ -13,21 +14,16 @@ is_printing b = not (is_blank b)
 abbrev pub is_break : ℕ → Bool
 is_break b = b == 10
 
--- the place of the first byte that passes the test, or the length where none does
-abbrev pub place_of : (ℕ → Bool) → List ℕ → ℕ
-place_of test [] = 0
-place_of test (b ∷ text) = cond (test b) 0 (suc (place_of test text))
-
 abbrev pub from_word : List ℕ → List ℕ
-from_word text = drop (place_of is_printing text) text
+from_word text = drop (position_or_len is_printing text) text
 
 -- the first word of a text, empty where there is none
 abbrev pub word_of : List ℕ → List ℕ
-word_of text = take (place_of is_blank (from_word text)) (from_word text)
+word_of text = take (position_or_len is_blank (from_word text)) (from_word text)
 
 -- what stands after it
 abbrev pub after_word : List ℕ → List ℕ
-after_word text = drop (place_of is_blank (from_word text)) (from_word text)
+after_word text = drop (position_or_len is_blank (from_word text)) (from_word text)
 
 abbrev pub is_empty : List ℕ → Bool
 is_empty word = length word == 0

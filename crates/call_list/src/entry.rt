@@ -1,7 +1,8 @@
 ghost use Rattle.std.specs.Prelude.{◌≡◌, Some};
 ghost use Rattle.call_list.specs.Faults.{wrong_text};
-ghost use Rattle.call_list.specs.declared.entry.LineFault.TheVariants.{Bad};
+ghost use Rattle.call_list.specs.declared.entry.LineFault.TheVariants.{Bad, NoMemory};
 
+use std::alloc::AllocError;
 use std::fmt;
 use telegram::Order;
 
@@ -41,11 +42,11 @@ pub enum Wrong {
     NeitherWantedNorShown,
 }
 
-impl Wrong {
-    fn text(&self) -> &'static str
-        ensures { result.now ≡ wrong_text self.now }
-    {
-        match self {
+impl fmt::Display for Wrong {
+    ghost output = { λ w. Some (wrong_text w) };
+
+    fn fmt<W: fmt::Write>(&self, f: &mut fmt::Formatter<W>) -> fmt::Result {
+        f.write_str(match self {
             Wrong::UnknownCall => "no such call",
             Wrong::MissingWord => "a word is missing",
             Wrong::ExtraWord => "there are words after the call's last",
@@ -54,15 +55,7 @@ impl Wrong {
             Wrong::UnknownOrder => "no such order",
             Wrong::UnknownMode => "no such mode",
             Wrong::NeitherWantedNorShown => "a text is wanted or shown",
-        }
-    }
-}
-
-impl fmt::Display for Wrong {
-    ghost output = { λ w. Some (wrong_text w) };
-
-    fn fmt<W: fmt::Write>(&self, f: &mut fmt::Formatter<W>) -> fmt::Result {
-        f.write_str(self.text())
+        })
     }
 }
 
@@ -78,5 +71,13 @@ impl From<Wrong> for LineFault {
 
     fn from(wrong: Wrong) -> LineFault {
         LineFault::Bad(wrong)
+    }
+}
+
+impl From<AllocError> for LineFault {
+    ghost from_gives = { λ _ r. r ≡ NoMemory };
+
+    fn from(_e: AllocError) -> LineFault {
+        LineFault::NoMemory
     }
 }

@@ -1,38 +1,32 @@
-ghost use Rattle.std.specs.Prelude.{◌≡◌};
+ghost use Rattle.std.specs.Prelude.{◌≡◌, ◌≤◌, length};
+ghost use Rattle.std.specs.List.{position_or_len};
+ghost use Rattle.call_list.specs.Words.{is_break};
 ghost use Rattle.call_list.specs.Lines.{line_of};
-ghost use Rattle.call_list.specs.Lists.{first_line, after_line, Kept, Noted, NotedOrWantsMemory, ReadsList, ReadsListOrWantsMemory};
+ghost use Rattle.call_list.specs.Lists.{first_line, after_line, Noted, NotedOrWantsMemory, ReadsList, ReadsListOrWantsMemory};
 ghost use Rattle.call_list.specs.Modes.{EveryModeIsNamed};
 
 use crate::entry::LineFault;
 use crate::line::read_line;
 use crate::listed::{ListFault, Listed};
-use crate::words::{LineBreak, find};
 use std::alloc::Global;
 
-fn first_line(text: &[u8]) -> &[u8]
-    ensures { result.now ≡ first_line text.now }
+fn line_end(text: &[u8]) -> usize
+    ensures value { result ≡ position_or_len is_break text.now }
+    ensures within { result ≤ length text.now }
 {
-    let end = find::<LineBreak>(text);
-    &text[0..end]
+    text.iter().position(|b| *b == b'\n').unwrap_or(text.len())
 }
 
-fn after_line(text: &[u8]) -> &[u8]
-    ensures { result.now ≡ after_line text.now }
+// The first line of a text, and what stands after its line break.
+fn split_line(text: &[u8]) -> (&[u8], &[u8])
+    ensures line { result.0.now ≡ first_line text.now }
+    ensures after { result.1.now ≡ after_line text.now }
 {
-    let end = find::<LineBreak>(text);
+    let end = line_end(text);
     if end < text.len() {
-        &text[end + 1..]
+        (&text[..end], &text[end + 1..])
     } else {
-        &text[end..]
-    }
-}
-
-fn keep(listed: &mut Vec<Listed>, one: Listed) -> Result<(), ListFault>
-    ensures { Kept one listed.old.items listed.new.items result }
-{
-    match listed.push(one) {
-        Ok(()) => Ok(()),
-        Err(_) => Err(ListFault::NoMemory),
+        (text, b"")
     }
 }
 
@@ -48,13 +42,13 @@ fn note_line(
 {
     match read_line(heap, line) {
         Ok(None) => Ok(()),
-        Ok(Some(entry)) => keep(
-            listed,
-            Listed {
+        Ok(Some(entry)) => {
+            listed.push(Listed {
                 line: number,
                 entry,
-            },
-        ),
+            })?;
+            Ok(())
+        }
         Err(LineFault::Bad(wrong)) => Err(ListFault::Line {
             line: number,
             wrong,
@@ -64,6 +58,7 @@ fn note_line(
 }
 
 // The calls of a list with the numbers of their lines, from 1, or its first bad line.
+// No `split`: it would give one piece more behind a last line break, which begins no line.
 pub fn read_list(heap: Global, text: &[u8]) -> Result<Vec<Listed>, ListFault>
     ensures reads { ReadsList text.now result }
     ensures value { ReadsListOrWantsMemory text.now result }
@@ -73,11 +68,10 @@ pub fn read_list(heap: Global, text: &[u8]) -> Result<Vec<Listed>, ListFault>
     let mut number = 1;
     let mut rest = text;
     while !rest.is_empty() {
-        if let Err(fault) = note_line(heap, &mut listed, number, first_line(rest)) {
-            return Err(fault);
-        }
+        let (line, after) = split_line(rest);
+        note_line(heap, &mut listed, number, line)?;
         number += 1;
-        rest = after_line(rest);
+        rest = after;
     }
     Ok(listed)
 }

@@ -1,4 +1,4 @@
-ghost use Rattle.std.specs.Prelude.{◌≡◌};
+ghost use Rattle.std.specs.Prelude.{◌≡◌, ◌≤◌, IfOk};
 ghost use Rattle.call_list.specs.Numbers.{digits_value, number_of, number_wanted, Within, ReadsWritten};
 
 use crate::entry::Wrong;
@@ -8,10 +8,10 @@ fn digits_value(word: &[u8], limit: u32) -> Option<u32>
 {
     let mut value: u64 = 0;
     for b in word {
-        if *b < 48 || *b > 57 {
+        if !b.is_ascii_digit() {
             return None;
         }
-        let next = value * 10 + (*b - 48) as u64;
+        let next = value * 10 + (*b - b'0') as u64;
         if next > limit as u64 {
             return None;
         }
@@ -21,7 +21,7 @@ fn digits_value(word: &[u8], limit: u32) -> Option<u32>
 }
 
 // The decimal number that a word writes; none where it writes none, or one past the limit.
-pub(crate) fn number(word: &[u8], limit: u32) -> Option<u32>
+fn number(word: &[u8], limit: u32) -> Option<u32>
     ensures value { result ≡ number_of limit word.now }
     ensures within { Within limit result }
     ensures written { ReadsWritten limit word.now result }
@@ -33,19 +33,14 @@ pub(crate) fn number(word: &[u8], limit: u32) -> Option<u32>
 }
 
 pub(crate) fn number_wanted(word: &[u8], limit: u32) -> Result<u32, Wrong>
-    ensures { result ≡ number_wanted limit word.now }
+    ensures value { result ≡ number_wanted limit word.now }
+    ensures within { IfOk result (λ n. n ≤ limit) }
 {
-    match number(word, limit) {
-        Some(n) => Ok(n),
-        None => Err(Wrong::NotANumber),
-    }
+    number(word, limit).ok_or(Wrong::NotANumber)
 }
 
 pub(crate) fn byte_wanted(word: &[u8]) -> Result<u8, Wrong>
     ensures { result ≡ number_wanted 255 word.now }
 {
-    match number(word, 255) {
-        Some(n) => Ok(n as u8),
-        None => Err(Wrong::NotANumber),
-    }
+    Ok(number_wanted(word, u8::MAX as u32)? as u8)
 }

@@ -1,109 +1,74 @@
-ghost use Rattle.std.specs.Prelude.{◌≡◌, ℕ, ◌≤◌, Bool, length};
-ghost use Rattle.std.specs.Str.{bytes_eq};
-ghost use Rattle.call_list.specs.Words.{is_blank, is_printing, is_break, place_of, from_word, word_of, after_word, count_fault};
+ghost use Rattle.std.specs.Prelude.{◌≡◌, ◌≤◌, length, true, false, Some, None};
+ghost use Rattle.std.specs.List.{position_or_len};
+ghost use Rattle.std.specs.Result.{MatchResult};
+ghost use Rattle.call_list.specs.Words.{is_blank, is_printing, word_of, after_word, is_empty, count_fault};
+ghost use Rattle.call_list.specs.declared.entry.Wrong.TheVariants.{MissingWord};
 
 use crate::entry::Wrong;
 
-// A test of one byte of the text.
-pub(crate) trait ByteTest {
-    ghost test: { ℕ → Bool };
-
-    fn holds(b: u8) -> bool
-        ensures { result ≡ test b };
-}
-
 // A space, a tab or a carriage return.
-pub(crate) struct Blank;
-
-// Any byte that is not blank.
-pub(crate) struct Printing;
-
-// The byte that ends a line.
-pub(crate) struct LineBreak;
-
-impl ByteTest for Blank {
-    ghost test = { is_blank };
-
-    fn holds(b: u8) -> bool {
-        b == 32 || b == 9 || b == 13
-    }
+fn is_blank(b: u8) -> bool
+    ensures { result ≡ is_blank b }
+{
+    b == b' ' || b == b'\t' || b == b'\r'
 }
 
-impl ByteTest for Printing {
-    ghost test = { is_printing };
-
-    fn holds(b: u8) -> bool {
-        !(b == 32 || b == 9 || b == 13)
-    }
-}
-
-impl ByteTest for LineBreak {
-    ghost test = { is_break };
-
-    fn holds(b: u8) -> bool {
-        b == 10
-    }
-}
-
-// The place of the first byte that passes the test, or the length where none does.
-pub(crate) fn find<B: ByteTest>(text: &[u8]) -> usize
-    ensures value { result ≡ place_of B.test text.now }
+fn word_start(text: &[u8]) -> usize
+    ensures value { result ≡ position_or_len is_printing text.now }
     ensures within { result ≤ length text.now }
 {
-    for (i, b) in text.iter().enumerate() {
-        if B::holds(*b) {
-            return i;
-        }
+    text.iter()
+        .position(|b| !is_blank(*b))
+        .unwrap_or(text.len())
+}
+
+fn word_end(text: &[u8]) -> usize
+    ensures value { result ≡ position_or_len is_blank text.now }
+    ensures within { result ≤ length text.now }
+{
+    text.iter().position(|b| is_blank(*b)).unwrap_or(text.len())
+}
+
+// The first word of a text, empty where there is none, and what stands after it.
+pub(crate) fn split_word(text: &[u8]) -> (&[u8], &[u8])
+    ensures word { result.0.now ≡ word_of text.now }
+    ensures after { result.1.now ≡ after_word text.now }
+{
+    let (_, from) = text.split_at(word_start(text));
+    from.split_at(word_end(from))
+}
+
+// The next word of a text and what stands after it, where a word is due.
+pub(crate) fn next_word(text: &[u8]) -> Result<(&[u8], &[u8]), Wrong>
+    ensures { MatchResult result
+        (λ p. (is_empty (word_of text.now) ≡ false) × (p.0.now ≡ word_of text.now) × (p.1.now ≡ after_word text.now))
+        (λ w. (is_empty (word_of text.now) ≡ true) × (w ≡ MissingWord)) }
+{
+    let (word, after) = split_word(text);
+    if word.is_empty() {
+        return Err(Wrong::MissingWord);
     }
-    text.len()
+    Ok((word, after))
 }
 
-// A text from its first word on.
-fn from_word(text: &[u8]) -> &[u8]
-    ensures { result.now ≡ from_word text.now }
+// Refuses a text with a word, where none is due.
+pub(crate) fn no_word(text: &[u8]) -> Result<(), Wrong>
+    ensures { MatchResult result (λ _. count_fault 0 text.now ≡ None) (λ w. count_fault 0 text.now ≡ Some w) }
 {
-    let start = find::<Printing>(text);
-    &text[start..]
-}
-
-// The first word of a text, empty where there is none.
-pub(crate) fn first_word(text: &[u8]) -> &[u8]
-    ensures { result.now ≡ word_of text.now }
-{
-    let from = from_word(text);
-    let end = find::<Blank>(from);
-    &from[0..end]
-}
-
-// What stands after the first word.
-pub(crate) fn after_word(text: &[u8]) -> &[u8]
-    ensures { result.now ≡ after_word text.now }
-{
-    let from = from_word(text);
-    let end = find::<Blank>(from);
-    &from[end..]
-}
-
-pub(crate) fn same(word: &[u8], other: &[u8]) -> bool
-    ensures { result ≡ bytes_eq word.now other.now }
-{
-    word == other
-}
-
-// What is wrong with the number of words in a text, where `wanted` are due.
-pub(crate) fn count_fault(text: &[u8], wanted: u8) -> Option<Wrong>
-    ensures { result ≡ count_fault wanted text.now }
-{
-    let mut rest = text;
-    for _ in 0..wanted {
-        if first_word(rest).is_empty() {
-            return Some(Wrong::MissingWord);
-        }
-        rest = after_word(rest);
-    }
-    if first_word(rest).is_empty() {
-        None
+    if split_word(text).0.is_empty() {
+        Ok(())
     } else {
-        Some(Wrong::ExtraWord)
+        Err(Wrong::ExtraWord)
     }
+}
+
+// The one word of a text.
+pub(crate) fn last_word(text: &[u8]) -> Result<&[u8], Wrong>
+    ensures { MatchResult result
+        (λ word. (count_fault 1 text.now ≡ None) × (word.now ≡ word_of text.now))
+        (λ w. count_fault 1 text.now ≡ Some w) }
+{
+    let (word, after) = next_word(text)?;
+    no_word(after)?;
+    Ok(word)
 }

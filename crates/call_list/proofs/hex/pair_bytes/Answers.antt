@@ -1,19 +1,18 @@
-use Rattle.std.proofs.Common.{◌≡◌, ◌+◌, ◌*◌, [], ◌∷◌, ◌++◌, drop, vec_items, sym, ap, ◌∙◌, arith}
-use Rattle.call_list.specs.Hex.{pairs}
-use Rattle.call_list.proofs.Pairs.{behind, pairs-more, pairs_fail, pairs_odd, pairs_end}
+use Rattle.std.proofs.Common.{◌≡◌, ◌-◌, ◌∷◌, [], ◌++◌, length, take, drop, ap, sym, ◌∙◌, arith}
+use Rattle.std.proofs.lemmas.List.{take_rest}
+use Rattle.call_list.specs.Hex.{pairs, before}
+use Rattle.call_list.proofs.Pairs.{behind, behind-one, pairs_two}
 use Rattle.call_list.proofs.hex.pair_bytes.Goals as goal
 
-pub returns-in_default : goal.returns-in_default
-returns-in_default c = pairs_fail c.args.digits.now c.loop-i.i _ _ c.loop-i.invariant (omega arith) (sym c.in_default.ensures)
-
-pub loop-i-preserved : goal.loop-i-preserved
-loop-i-preserved c =
-    let e : vec_items c.push.new.self ≡ vec_items c.loop-i.bytes ++ c.in-Some.b ∷ [] = c.in_ok-push.ensures.items in
-    ap (λ v. behind v (pairs (drop (2 * (c.loop-i.i + 1)) c.args.digits.now))) e
-    ∙ pairs-more c.args.digits.now c.loop-i.i _ _ c.loop-i.invariant c.in-Some.b (omega arith) (sym c.in-Some.ensures)
-
-pub returns-then-digits-eq1 : goal.returns-then-digits-eq1
-returns-then-digits-eq1 c = pairs_odd c.args.digits.now c.loop-i.i _ _ c.loop-i.invariant (omega arith)
-
-pub returns : goal.returns
-returns c = pairs_end c.args.digits.now c.loop-i.i _ _ c.loop-i.invariant (omega arith)
+pub loop-rest-preserved : goal.loop-rest-preserved
+loop-rest-preserved c =
+    let bytes = c.loop-rest.bytes.items in
+    let rest = c.loop-rest.rest.now in
+    let b = c.in-Some.b in
+    let e : c.push.new.self.items ≡ bytes ++ b ∷ [] = c.in_ok-push.ensures.items in
+    ap (λ v. behind v (pairs (take (length rest - 2) (drop 2 rest)))) e
+    ∙ ap (λ r. behind (bytes ++ b ∷ []) (pairs r)) (take_rest rest 2)
+    ∙ behind-one bytes b (pairs (drop 2 rest))
+    ∙ ap (λ o. behind bytes (before o (pairs (drop 2 rest)))) c.in-Some.ensures
+    ∙ ap (behind bytes) (sym (pairs_two rest (omega arith)))
+    ∙ c.loop-rest.invariant
