@@ -2,7 +2,7 @@ use cab_unit::Call;
 use call_list::{Entry, Listed};
 use driver_desk::{Draft, Refusal};
 use std::alloc::{AllocError, Global};
-use telegram::{Ending, Fault, read_all};
+use telegram::{Fault, Refused, read_all};
 
 // One of the two cabs.
 #[derive(Clone, Copy)]
@@ -129,8 +129,8 @@ impl<'a> Plan<'a> {
             self.add_call(line, Call::Order(placed.order), Some(places))?;
         }
         let note = match reading.ending {
-            Ending::End { place } => Note::End { place },
-            Ending::Fault { fault, first } => Note::Fault { fault, first },
+            Ok(place) => Note::End { place },
+            Err(Refused { fault, first }) => Note::Fault { fault, first },
         };
         self.add_note(line, note)
     }
