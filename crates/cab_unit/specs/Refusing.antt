@@ -1,5 +1,5 @@
 -- Which refusal a call meets, if any.
-use Rattle.std.specs.Prelude.{◌≡◌, ℕ, Bool, true, false, cond, ◌&&◌, is_some, Some, None, Option, nat_le}
+use Rattle.std.specs.Prelude.{ℕ, Bool, true, false, cond, ◌&&◌, is_some, Some, None, Option, nat_le}
 use Rattle.telegram.specs.Format.{OrderValue, OrderValue.authority, OrderValue.level, OrderValue.text, OrderValue.withdrawal, OrderValue.stop, OrderValue.sign, OrderValue.permission}
 use Rattle.telegram.specs.declared.modes.Mode.TheVariants.{SystemFailure}
 use Rattle.cab_unit.specs.Buttons.{is_button, enabled, settable}
@@ -40,13 +40,6 @@ call_refusal (cycle block) s = None
 call_refusal (order o) s = order_refusal o s
 call_refusal (press n) s = needing (is_button n) NoSuchButton (needing (enabled n s) ButtonNotEnabled None)
 call_refusal (take t) s = cond (is_some (record_refusal t)) (record_refusal t) (needing (settable s) RecordNotTaken None)
-
--- a record to be taken has its numbers in their ranges
-abbrev pub ValidRecord : Event → Type 0
-ValidRecord (cycle block) = Unit {0}
-ValidRecord (order o) = Unit {0}
-ValidRecord (press n) = Unit {0}
-ValidRecord (take t) = is_some (record_refusal t) ≡ false
 
 abbrev pub failed : State → Bool
 failed s = is_mode s.desk.mode SystemFailure

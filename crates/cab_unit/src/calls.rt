@@ -1,53 +1,21 @@
 ghost use Rattle.std.specs.Prelude.{◌≡◌, true, false, is_some, Some, None};
-ghost use Rattle.cab_unit.specs.Events.{said};
+ghost use Rattle.telegram.specs.Format.{value_of};
+ghost use Rattle.cab_unit.specs.Events as events;
 ghost use Rattle.cab_unit.specs.Facts.{Facts};
 ghost use Rattle.cab_unit.specs.Line.{settled};
-ghost use Rattle.cab_unit.specs.Refusing.{ValidRecord, refusal as refusal_of};
-ghost use Rattle.cab_unit.specs.Steps.{answering, changed, next, reply};
-ghost use Rattle.cab_unit.specs.View.{view, done_of};
+ghost use Rattle.driver_desk.specs.Records.{record_refusal};
+ghost use Rattle.cab_unit.specs.Refusing.{refusal as refusal_of};
+ghost use Rattle.cab_unit.specs.Steps.{answering, next, reply};
+ghost use Rattle.cab_unit.specs.View.{view};
 
 use crate::cab::{Cab, Done};
-use crate::call::Call;
 use crate::desk::is_mode;
-use driver_desk::{Answer, Refusal};
-use telegram::Mode;
+use driver_desk::{Answer, Refusal, TrainRecord};
+use telegram::{Mode, Order};
 use train_end::TrainEnd;
 
 // Each call: refused with nothing touched, or done and settled.
 impl<E: TrainEnd> Cab<E> {
-    fn refusal(&self, call: Call<'_>) -> Option<Refusal>
-        requires { ValidRecord (said call) }
-        ensures { result ≡ refusal_of (said call.entry) (view E.speed_of E.line_of self.now) }
-    {
-        match call {
-            Call::Order(order) => self.order_refusal(order),
-            Call::Press(button) => self.press_refusal(button),
-            Call::Cycle(_) | Call::Take(_) if is_mode(self.desk.mode, Mode::SystemFailure) => Some(
-                Refusal::InSystemFailure,
-            ),
-            Call::Take(_) if !self.settable() => Some(Refusal::RecordNotTaken),
-            Call::Cycle(_) | Call::Take(_) => None,
-        }
-    }
-
-    // What an accepted call does. A record held before is replaced.
-    fn change(&mut self, call: Call<'_>) -> Done
-        requires facts { ∥ Facts (view E.speed_of E.line_of self.old) ∥₁ }
-        requires accepted { refusal_of (said call) (view E.speed_of E.line_of self.old) ≡ None }
-        ensures state { view E.speed_of E.line_of self.new ≡ (changed E.reading (said call.entry) (view E.speed_of E.line_of self.old)).state }
-        ensures done { result ≡ done_of (changed E.reading (said call.entry) (view E.speed_of E.line_of self.old)) }
-    {
-        match call {
-            Call::Cycle(block) => self.cycle_change(block),
-            Call::Order(order) => self.order_change(order),
-            Call::Press(button) => self.press_change(button),
-            Call::Take(train) => {
-                self.train = Some(train);
-                Done::withdrawing(0)
-            }
-        }
-    }
-
     fn refuse(&self, refusal: Refusal) -> Answer
         ensures { result ≡ answering (Some refusal) None None 0 (view E.speed_of E.line_of self.now) }
     {
@@ -62,19 +30,63 @@ impl<E: TrainEnd> Cab<E> {
         self.answer(None, done)
     }
 
-    pub fn call(&mut self, call: Call<'_>) -> Answer
-        requires facts { ∥ Facts (view E.speed_of E.line_of self.old) ∥₁ }
-        requires valid { ValidRecord (said call) }
-        ensures state { view E.speed_of E.line_of self.new ≡ next E.reading (said call.entry) (view E.speed_of E.line_of self.old) }
-        ensures answer { result ≡ reply E.reading (said call.entry) (view E.speed_of E.line_of self.old) }
-        ensures refused { is_some (refusal_of (said call.entry) (view E.speed_of E.line_of self.old)) ≡ true → self.new ≡ self.old }
+    pub fn press(&mut self, button: u8) -> Answer
+        requires { ∥ Facts (view E.speed_of E.line_of self.old) ∥₁ }
+        ensures state { view E.speed_of E.line_of self.new ≡ next E.reading (events.Event.press button) (view E.speed_of E.line_of self.old) }
+        ensures answer { result ≡ reply E.reading (events.Event.press button) (view E.speed_of E.line_of self.old) }
+        ensures refused { is_some (refusal_of (events.Event.press button) (view E.speed_of E.line_of self.old)) ≡ true → self.new ≡ self.old }
     {
-        match self.refusal(call) {
+        match self.press_refusal(button) {
             Some(refusal) => self.refuse(refusal),
             None => {
-                let done = self.change(call);
+                let done = self.press_change(button);
                 self.finish(done)
             }
         }
+    }
+
+    pub fn order(&mut self, order: Order<'_>) -> Answer
+        requires { ∥ Facts (view E.speed_of E.line_of self.old) ∥₁ }
+        ensures state { view E.speed_of E.line_of self.new ≡ next E.reading (events.Event.order (value_of order.entry)) (view E.speed_of E.line_of self.old) }
+        ensures answer { result ≡ reply E.reading (events.Event.order (value_of order.entry)) (view E.speed_of E.line_of self.old) }
+        ensures refused { is_some (refusal_of (events.Event.order (value_of order.entry)) (view E.speed_of E.line_of self.old)) ≡ true → self.new ≡ self.old }
+    {
+        match self.order_refusal(order) {
+            Some(refusal) => self.refuse(refusal),
+            None => {
+                let done = self.order_change(order);
+                self.finish(done)
+            }
+        }
+    }
+
+    pub fn cycle(&mut self, block: &[u8]) -> Answer
+        requires { ∥ Facts (view E.speed_of E.line_of self.old) ∥₁ }
+        ensures state { view E.speed_of E.line_of self.new ≡ next E.reading (events.Event.cycle block.now) (view E.speed_of E.line_of self.old) }
+        ensures answer { result ≡ reply E.reading (events.Event.cycle block.now) (view E.speed_of E.line_of self.old) }
+        ensures refused { is_some (refusal_of (events.Event.cycle block.now) (view E.speed_of E.line_of self.old)) ≡ true → self.new ≡ self.old }
+    {
+        if is_mode(self.desk.mode, Mode::SystemFailure) {
+            return self.refuse(Refusal::InSystemFailure);
+        }
+        let done = self.cycle_change(block);
+        self.finish(done)
+    }
+
+    // A record held before is replaced.
+    pub fn take(&mut self, train: TrainRecord) -> Answer
+        requires { is_some (record_refusal train) ≡ false }
+        ensures state { view E.speed_of E.line_of self.new ≡ next E.reading (events.Event.take train) (view E.speed_of E.line_of self.old) }
+        ensures answer { result ≡ reply E.reading (events.Event.take train) (view E.speed_of E.line_of self.old) }
+        ensures refused { is_some (refusal_of (events.Event.take train) (view E.speed_of E.line_of self.old)) ≡ true → self.new ≡ self.old }
+    {
+        if is_mode(self.desk.mode, Mode::SystemFailure) {
+            return self.refuse(Refusal::InSystemFailure);
+        }
+        if !self.settable() {
+            return self.refuse(Refusal::RecordNotTaken);
+        }
+        self.train = Some(train);
+        self.finish(Done::withdrawing(0))
     }
 }

@@ -9,7 +9,6 @@ ghost use Rattle.cab_unit.specs.Steps.{answering, next, reply, switched_on};
 ghost use Rattle.cab_unit.specs.View.{view, bare};
 
 use crate::cab::{Cab, Done};
-use crate::call::Call;
 use crate::desk::Desk;
 use crate::waiting::Waiting;
 use driver_desk::{Answer, Confirmed, Level};
@@ -73,7 +72,7 @@ impl<E: TrainEnd> Unit<E> {
         ensures answer { result ≡ reply E.reading (events.Event.press button) (view E.speed_of E.line_of self.old.cab) }
         ensures refused { is_some (refusal_of (events.Event.press button) (view E.speed_of E.line_of self.old.cab)) ≡ true → self.new.cab ≡ self.old.cab }
     {
-        self.cab.call(Call::Press(button))
+        self.cab.press(button)
     }
 
     pub fn order(&mut self, order: Order<'_>) -> Answer
@@ -81,7 +80,7 @@ impl<E: TrainEnd> Unit<E> {
         ensures answer { result ≡ reply E.reading (events.Event.order (value_of order.entry)) (view E.speed_of E.line_of self.old.cab) }
         ensures refused { is_some (refusal_of (events.Event.order (value_of order.entry)) (view E.speed_of E.line_of self.old.cab)) ≡ true → self.new.cab ≡ self.old.cab }
     {
-        self.cab.call(Call::Order(order))
+        self.cab.order(order)
     }
 
     pub fn cycle(&mut self, block: &[u8]) -> Answer
@@ -89,7 +88,7 @@ impl<E: TrainEnd> Unit<E> {
         ensures answer { result ≡ reply E.reading (events.Event.cycle block.now) (view E.speed_of E.line_of self.old.cab) }
         ensures refused { is_some (refusal_of (events.Event.cycle block.now) (view E.speed_of E.line_of self.old.cab)) ≡ true → self.new.cab ≡ self.old.cab }
     {
-        self.cab.call(Call::Cycle(block))
+        self.cab.cycle(block)
     }
 
     // Uses the record up where it is taken, and hands it back where it is not.
@@ -98,7 +97,7 @@ impl<E: TrainEnd> Unit<E> {
         ensures answer { MatchResult result (λ a. (a ≡ reply E.reading (events.Event.take confirmed.train) (view E.speed_of E.line_of self.old.cab)) × (refusal_of (events.Event.take confirmed.train) (view E.speed_of E.line_of self.old.cab) ≡ None)) (λ b. (b.0 ≡ reply E.reading (events.Event.take confirmed.train) (view E.speed_of E.line_of self.old.cab)) × (is_some (refusal_of (events.Event.take confirmed.train) (view E.speed_of E.line_of self.old.cab)) ≡ true) × (b.1 ≡ confirmed)) }
         ensures refused { is_some (refusal_of (events.Event.take confirmed.train) (view E.speed_of E.line_of self.old.cab)) ≡ true → self.new.cab ≡ self.old.cab }
     {
-        let answer = self.cab.call(Call::Take(*confirmed.numbers()));
+        let answer = self.cab.take(*confirmed.numbers());
         match answer.outcome {
             None => Ok(answer),
             Some(_) => Err((answer, confirmed)),

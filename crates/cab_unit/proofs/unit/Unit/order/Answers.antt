@@ -7,4 +7,4 @@ use Rattle.cab_unit.proofs.unit.Unit.order.Goals as goal
 pub invariant_of-self : goal.invariant_of-self
 invariant_of-self g c =
     let see = view g.E.TrainEnd.speed_of g.E.TrainEnd.line_of in
-    record { facts = facts_after g.E.TrainEnd.reading (order (value_of c.args.order)) (see c.args.self.now.cab) (see c.call.new.self) c.args.self.now.facts c.call.ensures.state }
+    record { facts = facts_after g.E.TrainEnd.reading (order (value_of c.args.order)) (see c.args.self.now.cab) (see c.order.new.self) c.args.self.now.facts c.order.ensures.state }

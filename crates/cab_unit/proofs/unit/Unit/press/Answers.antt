@@ -6,4 +6,4 @@ use Rattle.cab_unit.proofs.unit.Unit.press.Goals as goal
 pub invariant_of-self : goal.invariant_of-self
 invariant_of-self g c =
     let see = view g.E.TrainEnd.speed_of g.E.TrainEnd.line_of in
-    record { facts = facts_after g.E.TrainEnd.reading (press c.args.button) (see c.args.self.now.cab) (see c.call.new.self) c.args.self.now.facts c.call.ensures.state }
+    record { facts = facts_after g.E.TrainEnd.reading (press c.args.button) (see c.args.self.now.cab) (see c.press.new.self) c.args.self.now.facts c.press.ensures.state }

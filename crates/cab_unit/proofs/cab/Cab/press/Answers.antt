@@ -1,27 +1,24 @@
-use Rattle.std.proofs.Common.{refl, sym}
-use Rattle.cab_unit.specs.Events.{Event, said}
+use Rattle.std.proofs.Common.{refl}
+use Rattle.cab_unit.specs.Events.{Event, Event.press}
 use Rattle.cab_unit.specs.View.{view}
 use Rattle.cab_unit.proofs.Stepping.{refused-state, refused-answer, accepted-state, accepted-answer, not-refused}
-use Rattle.cab_unit.proofs.cab.Cab.call.Goals as goal
+use Rattle.cab_unit.proofs.cab.Cab.press.Goals as goal
 
 pub returns-in-Some : goal.returns-in-Some
 returns-in-Some g c =
     let reads = g.E.TrainEnd.reading in
-    let e : Event = said c.args.call in
+    let e : Event = press c.args.button in
     let s = view g.E.TrainEnd.speed_of g.E.TrainEnd.line_of c.args.self.now in
     let h = c.in-Some.ensures in
     record { state = refused-state reads e s _ h; answer = refused-answer reads e s _ _ h c.refuse.ensures; refused = λ _. refl }
 
-pub change-done-requires : goal.change-done-requires
-change-done-requires g c = record { facts = c.requires.facts; accepted = sym c.in-None.ensures }
-
 pub returns-in-None : goal.returns-in-None
 returns-in-None g c =
     let reads = g.E.TrainEnd.reading in
-    let e : Event = said c.args.call in
+    let e : Event = press c.args.button in
     let s = view g.E.TrainEnd.speed_of g.E.TrainEnd.line_of c.args.self.now in
     let h = c.in-None.ensures in
-    let done = c.change-done.ensures in
+    let done = c.press_change-done.ensures in
     record {
       state = accepted-state reads e s _ _ h done.state c.finish.ensures.state;
       answer = accepted-answer reads e s _ _ _ h done.state done.done c.finish.ensures.answer;
