@@ -9,7 +9,6 @@ ghost use Rattle.cab_unit.specs.Steps.{answering, next, reply};
 ghost use Rattle.cab_unit.specs.View.{view};
 
 use crate::cab::{Cab, Done};
-use crate::desk::is_mode;
 use driver_desk::{Answer, Refusal, TrainRecord};
 use telegram::{Mode, Order};
 use train_end::TrainEnd;
@@ -36,9 +35,9 @@ impl<E: TrainEnd> Cab<E> {
         ensures answer { result ≡ reply E.reading (events.Event.press button) (view E.speed_of E.line_of self.old) }
         ensures refused { is_some (refusal_of (events.Event.press button) (view E.speed_of E.line_of self.old)) ≡ true → self.new ≡ self.old }
     {
-        match self.press_refusal(button) {
-            Some(refusal) => self.refuse(refusal),
-            None => {
+        match self.pressed(button) {
+            Err(refusal) => self.refuse(refusal),
+            Ok(button) => {
                 let done = self.press_change(button);
                 self.finish(done)
             }
@@ -66,7 +65,7 @@ impl<E: TrainEnd> Cab<E> {
         ensures answer { result ≡ reply E.reading (events.Event.cycle block.now) (view E.speed_of E.line_of self.old) }
         ensures refused { is_some (refusal_of (events.Event.cycle block.now) (view E.speed_of E.line_of self.old)) ≡ true → self.new ≡ self.old }
     {
-        if is_mode(self.desk.mode, Mode::SystemFailure) {
+        if self.desk.mode == Mode::SystemFailure {
             return self.refuse(Refusal::InSystemFailure);
         }
         let done = self.cycle_change(block);
@@ -80,7 +79,7 @@ impl<E: TrainEnd> Cab<E> {
         ensures answer { result ≡ reply E.reading (events.Event.take train) (view E.speed_of E.line_of self.old) }
         ensures refused { is_some (refusal_of (events.Event.take train) (view E.speed_of E.line_of self.old)) ≡ true → self.new ≡ self.old }
     {
-        if is_mode(self.desk.mode, Mode::SystemFailure) {
+        if self.desk.mode == Mode::SystemFailure {
             return self.refuse(Refusal::InSystemFailure);
         }
         if !self.settable() {

@@ -48,14 +48,16 @@ impl<E: TrainEnd> Unit<E> {
         ensures line { E.line_of result ≡ Emergency }
         ensures speed { E.speed_of result ≡ E.speed_of self.cab.end }
     {
-        let Unit { cab } = self;
-        let Cab {
-            desk: _,
-            train: _,
-            cycle: _,
-            waiting: _,
-            mut end,
-        } = cab;
+        let Unit {
+            cab:
+                Cab {
+                    desk: _,
+                    train: _,
+                    cycle: _,
+                    waiting: _,
+                    mut end,
+                },
+        } = self;
         end.set_line(BrakeLine::Emergency);
         end
     }

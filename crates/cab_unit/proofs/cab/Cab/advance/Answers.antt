@@ -6,5 +6,5 @@ use Rattle.cab_unit.proofs.cab.Cab.advance.Goals as goal
 pub watch-requires : goal.watch-requires
 watch-requires g c =
     let see = view g.E.TrainEnd.speed_of g.E.TrainEnd.line_of in
-    let room = watch_room (see c.args.self.now) _ (see c.count_silence.new.self) (see c.lapse.new.self) c.requires.facts refl refl c.count_silence.ensures c.lapse.ensures in
+    let room = watch_room (see c.args.self.now) _ (see c.count_silence.new.self) c.requires.facts refl refl c.count_silence.ensures in
     record { untripped = room.0; unheld = room.1 }
