@@ -27,7 +27,7 @@ pub struct Cab<E> {
 }
 
 // What an accepted call did, beside the state that it left.
-#[derive(Clone, Copy)]
+#[derive(Clone, Copy, Default)]
 pub struct Done {
     pub raised: Option<Request>,
     pub ended: Option<Request>,
@@ -39,9 +39,8 @@ impl Done {
         ensures { result ≡ done_with None None number }
     {
         Done {
-            raised: None,
-            ended: None,
             withdrawn: number,
+            ..Done::default()
         }
     }
 
@@ -51,8 +50,7 @@ impl Done {
     {
         Done {
             raised: Some(request),
-            ended: None,
-            withdrawn: number,
+            ..Done::withdrawing(number)
         }
     }
 }
@@ -156,6 +154,22 @@ impl<E: TrainEnd> Cab<E> {
             acknowledged: done.ended,
             withdrawn: done.withdrawn,
         }
+    }
+
+    // A refusal touches nothing.
+    pub fn refuse(&self, refusal: Refusal) -> Answer
+        ensures { result ≡ answering (Some refusal) None None 0 (view E.speed_of E.line_of self.now) }
+    {
+        self.answer(Some(refusal), Done::default())
+    }
+
+    // What was done is settled, and then answered.
+    pub fn finish(&mut self, done: Done) -> Answer
+        ensures state { view E.speed_of E.line_of self.new ≡ settled (view E.speed_of E.line_of self.old) }
+        ensures answer { result ≡ answering None done.raised done.ended done.withdrawn (settled (view E.speed_of E.line_of self.old)) }
+    {
+        self.settle();
+        self.answer(None, done)
     }
 
     // A change of mode withdraws what waits of class mode.

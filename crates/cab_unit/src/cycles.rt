@@ -36,7 +36,7 @@ impl<E: TrainEnd> Cab<E> {
         match self.desk.mode {
             _ if self.desk.silence == 401 && is_standing(speed) => {
                 self.desk.authority = false;
-                Done::withdrawing(0)
+                Done::default()
             }
             Mode::Standby | Mode::PostTrip
                 if is_moving(speed) && !self.waiting.holds(Class::Hold, 0) => {
@@ -49,7 +49,7 @@ impl<E: TrainEnd> Cab<E> {
                 let request = self.raise_alone(Class::Trip, 0, false);
                 Done::raising(request, withdrawn)
             }
-            _ => Done::withdrawing(0),
+            _ => Done::default(),
         }
     }
 

@@ -4,7 +4,6 @@
 mod button;
 mod cab;
 mod call;
-mod calls;
 mod cycles;
 mod desk;
 mod examples;

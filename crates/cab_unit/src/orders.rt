@@ -83,7 +83,7 @@ impl<E: TrainEnd> Cab<E> {
         ensures done { result ≡ done_of (authority_change mode (view E.speed_of E.line_of self.old)) }
     {
         if self.desk.mode == mode {
-            return Done::withdrawing(0);
+            return Done::default();
         }
         let withdrawn = self.enter(mode);
         if mode == Mode::FullSupervision {
@@ -134,7 +134,7 @@ impl<E: TrainEnd> Cab<E> {
         ensures done { result ≡ done_of (text_change number wanted (view E.speed_of E.line_of self.old)) }
     {
         if !wanted {
-            return Done::withdrawing(0);
+            return Done::default();
         }
         let request = self.raise(Class::Text, number, true);
         Done::raising(request, 0)
@@ -178,7 +178,7 @@ impl<E: TrainEnd> Cab<E> {
     {
         let level = level_numbered(number);
         if level == self.desk.level {
-            return Done::withdrawing(0);
+            return Done::default();
         }
         self.change_level(level)
     }
@@ -198,7 +198,7 @@ impl<E: TrainEnd> Cab<E> {
             Order::EmergencyStop => self.stop(),
             Order::Sign => {
                 self.desk.silence = 0;
-                Done::withdrawing(0)
+                Done::default()
             }
             Order::Permission => self.permission(),
         }

@@ -35,7 +35,7 @@ fn entered_by(ended: Option<Request>) -> Option<Mode>
 impl<E: TrainEnd> Cab<E> {
     // The button pressed, or why the press is refused.
     pub fn pressed(&self, number: u8) -> Result<Button, Refusal>
-        ensures { MatchResult result (λ b. (button_number b ≡ number) × (refusal_of (events.Event.press number) (view E.speed_of E.line_of self.now) ≡ None)) (λ e. refusal_of (events.Event.press number) (view E.speed_of E.line_of self.now) ≡ Some e) }
+        ensures { MatchResult result (λ b. (button_number b ≡ number) × (None ≡ refusal_of (events.Event.press number) (view E.speed_of E.line_of self.now))) (λ e. Some e ≡ refusal_of (events.Event.press number) (view E.speed_of E.line_of self.now)) }
     {
         if self.desk.mode == Mode::SystemFailure {
             return Err(Refusal::InSystemFailure);
@@ -59,9 +59,8 @@ impl<E: TrainEnd> Cab<E> {
             None => 0,
         };
         Done {
-            raised: None,
             ended,
-            withdrawn,
+            ..Done::withdrawing(withdrawn)
         }
     }
 
@@ -74,7 +73,7 @@ impl<E: TrainEnd> Cab<E> {
         let request = match self.desk.level {
             Level::Two => {
                 self.desk.pending = true;
-                return Done::withdrawing(0);
+                return Done::default();
             }
             Level::One => self.raise_alone(Class::Mode, Mode::StaffResponsible.code(), false),
             Level::Zero => self.raise_alone(Class::Mode, Mode::Unfitted.code(), false),
@@ -114,7 +113,7 @@ impl<E: TrainEnd> Cab<E> {
             }
             Button::Level(level) => {
                 self.desk.level = level;
-                Done::withdrawing(0)
+                Done::default()
             }
             Button::CloseDesk => self.close_desk(),
         }
