@@ -1,4 +1,3 @@
-pub mod Texts
 pub mod Backs
 pub mod Standing
 pub mod Readings

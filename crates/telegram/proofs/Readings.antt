@@ -1,23 +1,22 @@
 -- Whole telegrams: what is read of one is its bytes, order by order.
-use Rattle.std.proofs.Common.{◌≡◌, ℕ, zero, suc, ◌+◌, ◌-◌, ◌*◌, ◌/◌, ◌%◌, ◌<◌, ◌≤◌, leb, List, [], ◌∷◌, ◌++◌, map, length, take, drop, Some, None, Ok, Err, Option, Result, sym, refl, ap, ◌∙◌, subst, arith}
+use Rattle.std.proofs.Common.{◌≡◌, ℕ, zero, suc, ◌+◌, ◌-◌, ◌*◌, ◌/◌, ◌%◌, ◌<◌, ◌≤◌, leb, List, [], ◌∷◌, ◌++◌, map, length, take, drop, Ok, Err, Result, IsOk, sym, refl, ap, ◌∙◌, subst, arith}
 use Rattle.std.specs.List.{flat_map, AllByRecursion}
 use Rattle.std.proofs.lemmas.List.{length-take, length-drop, take-append-drop, drop-drop, drop_at, map_push, append_assoc, append-nil}
-use Rattle.std.proofs.lemmas.Bool.{cond_both}
+use Rattle.std.proofs.lemmas.Bool.{cond_both, false≢true}
 use Rattle.telegram.specs.Kinds.{kind_numbered, takes_length}
 use Rattle.telegram.specs.Format.{OrderValue, bytes_of, InLists}
 use Rattle.telegram.specs.Reading.{ReadValue, ReadValue.order, ReadValue.end, ReadValue.fault, placed, read_fields, read_kind, read_left, read_at}
-use Rattle.telegram.specs.Whole.{PlacedValue, with_first, read_on, Faultless, WholeTelegram, EndsWithin}
+use Rattle.telegram.specs.Whole.{PlacedValue, with_first, read_on, WholeTelegram, EndsWithin}
 use Rattle.telegram.specs.declared.faults.Fault.{Fault}
+use Rattle.telegram.specs.declared.faults.Refused.{Refused}
 use Rattle.telegram.specs.declared.kinds.Kind.{Kind}
-use Rattle.telegram.specs.declared.whole.Ending.{Ending}
-use Rattle.telegram.specs.declared.whole.Ending.TheVariants.{End, Fault as FaultAt}
 use Rattle.telegram.proofs.Standing.{order_back, left_only}
 
 -- The reading of a telegram from a place on, answer by answer.
-pub data Reads (t : List ℕ) : ℕ → List PlacedValue → Ending → Type 0 where
-  ended : {p q : ℕ} → read_at t p ≡ end q → Reads t p [] (End q)
-  refused : {p q : ℕ} {f : Fault} → read_at t p ≡ fault f q → Reads t p [] (FaultAt f q)
-  read : {p first after : ℕ} {o : OrderValue} {os : List PlacedValue} {e : Ending} →
+pub data Reads (t : List ℕ) : ℕ → List PlacedValue → Result ℕ Refused → Type 0 where
+  ended : {p q : ℕ} → read_at t p ≡ end q → Reads t p [] (Ok q)
+  refused : {p q : ℕ} {f : Fault} → read_at t p ≡ fault f q → Reads t p [] (Err (record { fault = f; first = q }))
+  read : {p first after : ℕ} {o : OrderValue} {os : List PlacedValue} {e : Result ℕ Refused} →
       read_at t p ≡ order o first after → Reads t after os e →
       Reads t p (record { what = o; first = first; after = after } ∷ os) e
 
@@ -33,9 +32,9 @@ placed_here p n (Ok o) = refl
 placed_here p n (Err f) = refl
 
 -- So is what is read with a kind and a length.
-kind_here : (p : ℕ) (r : Option Kind) (n : ℕ) (bs : List ℕ) → Here p (read_kind p r n bs)
-kind_here p None n bs = refl
-kind_here p (Some k) n bs =
+kind_here : (p : ℕ) (r : Result Kind Fault) (n : ℕ) (bs : List ℕ) → Here p (read_kind p r n bs)
+kind_here p (Err f) n bs = refl
+kind_here p (Ok k) n bs =
     cond_both (takes_length k n) _ _ (Here p)
     (λ _. cond_both (leb n (2 + length bs)) _ _ (Here p) (λ _. placed_here p n (read_fields k (take (n - 2) bs))) (λ _. refl))
     (λ _. refl)
@@ -70,7 +69,7 @@ order-then t p o first after h =
     ap (λ (x : List ℕ). bytes_of o ++ x) (sym rest) ∙ ap (λ (x : List ℕ). x ++ drop n (drop p t)) (sym s.1) ∙ take-append-drop n (drop p t)
 
 -- One reading alone fits.
-pub reads_only : (t : List ℕ) (p : ℕ) (os qs : List PlacedValue) (e f : Ending) → Reads t p os e → Reads t p qs f → (qs ≡ os) × (f ≡ e)
+pub reads_only : (t : List ℕ) (p : ℕ) (os qs : List PlacedValue) (e f : Result ℕ Refused) → Reads t p os e → Reads t p qs f → (qs ≡ os) × (f ≡ e)
 reads_only t p os qs e f (ended h) (ended k) = (cc, cc)
 reads_only t p os qs e f (ended h) (refused k) = (cc, cc)
 reads_only t p os qs e f (ended h) (read k s) = (cc, cc)
@@ -85,10 +84,10 @@ reads_only t p os qs e f (read {after = a} {os = os'} h r) (read {after = b} {os
     (cc, rest.1)
 
 -- What is read to the end, from a place on, is the rest of the telegram.
-pub whole_only : (t : List ℕ) (p : ℕ) (os : List PlacedValue) (e : Ending) → Reads t p os e → Faultless e →
+pub whole_only : (t : List ℕ) (p : ℕ) (os : List PlacedValue) (e : Result ℕ Refused) → Reads t p os e → IsOk e →
     AllByRecursion InLists (map (λ x. x.what) os) × (flat_map bytes_of (map (λ x. x.what) os) ≡ drop p t)
 whole_only t p os e (ended {q = q} h) k = (tt, sym (left_end p (drop p t) q h).0)
-whole_only t p os e (refused h) k = absurd k
+whole_only t p os e (refused h) k = absurd (false≢true k)
 whole_only t p os e (read {first = first} {after = after} {o = o} {os = os'} h r) k =
     let rest = whole_only t after os' e r k in
     let s = left_only p (drop p t) o first after h in
@@ -96,8 +95,8 @@ whole_only t p os e (read {first = first} {after = after} {o = o} {os = os'} h r
 
 -- The bytes of orders, their fields in their lists, are read as those orders, to the end.
 pub whole_back : (t : List ℕ) (p : ℕ) (os : List OrderValue) → AllByRecursion InLists os → flat_map bytes_of os ≡ drop p t →
-    (placed : List PlacedValue) × (e : Ending) × Reads t p placed e × Faultless e × (map (λ x. x.what) placed ≡ os)
-whole_back t p [] all h = ([], End p, ended (ap (read_left p) (sym h)), tt, refl)
+    (placed : List PlacedValue) × (e : Result ℕ Refused) × Reads t p placed e × IsOk e × (map (λ x. x.what) placed ≡ os)
+whole_back t p [] all h = ([], Ok p, ended (ap (read_left p) (sym h)), refl, refl)
 whole_back t p (o ∷ os) all h =
     let n = length (bytes_of o) in
     let here : read_at t p ≡ order o p (p + n) = ap (read_left p) (sym h) ∙ order_back p o (flat_map bytes_of os) all.0 in
@@ -106,19 +105,19 @@ whole_back t p (o ∷ os) all h =
     (record { what = o; first = p; after = p + n } ∷ rest.0, rest.1, read here rest.2, rest.3, ap (λ (x : List OrderValue). o ∷ x) rest.4)
 
 -- The law of the whole telegram, of any reading from its start.
-pub whole-telegram : (t : List ℕ) (os : List PlacedValue) (e : Ending) → Reads t 0 os e → WholeTelegram t (record { orders = os; ending = e })
+pub whole-telegram : (t : List ℕ) (os : List PlacedValue) (e : Result ℕ Refused) → Reads t 0 os e → WholeTelegram t (record { orders = os; ending = e })
 whole-telegram t placed e r os = (
   λ h.
       let w = whole_back t 0 os h.0 h.1 in
       let same = reads_only t 0 placed w.0 e w.1 r w.2 in
-      (subst Faultless same.1 w.3, ap (map (λ (x : PlacedValue). x.what)) (sym same.0) ∙ w.4),
+      (subst IsOk same.1 w.3, ap (map (λ (x : PlacedValue). x.what)) (sym same.0) ∙ w.4),
   λ h.
       let w = whole_only t 0 placed e r h.0 in
       (subst (AllByRecursion InLists) h.1 w.0, ap (flat_map bytes_of) (sym h.1) ∙ w.1),
 )
 
 -- A reading from a place in the telegram ends in it.
-pub ends-within : (t : List ℕ) (p : ℕ) (os : List PlacedValue) (e : Ending) → p ≤ length t → Reads t p os e → EndsWithin t e
+pub ends-within : (t : List ℕ) (p : ℕ) (os : List PlacedValue) (e : Result ℕ Refused) → p ≤ length t → Reads t p os e → EndsWithin t e
 ends-within t p os e l (ended {q = q} h) =
     let s = left_end p (drop p t) q h in
     omega (arith, s.1, ap length s.0, length-drop p t)
@@ -129,7 +128,7 @@ ends-within t p os e l (read {first = first} {after = after} {o = o} {os = os'} 
     ends-within t after os' e (order-within t p o first after h).1 r
 
 -- A reading is what the definition gives, where enough orders may follow.
-pub reads_whole : (t : List ℕ) (p n : ℕ) (os : List PlacedValue) (e : Ending) → length t ≤ p + n → Reads t p os e →
+pub reads_whole : (t : List ℕ) (p n : ℕ) (os : List PlacedValue) (e : Result ℕ Refused) → length t ≤ p + n → Reads t p os e →
     read_on n t (read_at t p) ≡ record { orders = os; ending = e }
 reads_whole t p n os e l (ended h) = ap (read_on n t) h
 reads_whole t p n os e l (refused h) = ap (read_on n t) h
@@ -145,7 +144,7 @@ pub answered : (t u : List ℕ) (p : ℕ) (v : ReadValue) → u ≡ t → v ≡ 
 answered t u p v same h = ap (λ (x : List ℕ). read_at x p) (sym same) ∙ sym h
 
 -- Where nothing is left to read, what was read is all.
-pub all_read : (t : List ℕ) (os : List PlacedValue) (e : Ending) → Reads t 0 (os ++ []) e → Reads t 0 os e
+pub all_read : (t : List ℕ) (os : List PlacedValue) (e : Result ℕ Refused) → Reads t 0 (os ++ []) e → Reads t 0 os e
 all_read t os e r = subst (λ (x : List PlacedValue). Reads t 0 x e) (append-nil os) r
 
 -- One more element, and what follows it.

@@ -1,20 +1,20 @@
 -- An order is read exactly where its bytes stand.
-use Rattle.std.proofs.Common.{◌≡◌, ℕ, ◌+◌, ◌-◌, ◌*◌, ◌/◌, ◌%◌, ◌<◌, true, leb, List, [], ◌∷◌, ◌++◌, length, take, drop, Some, None, Ok, Err, Option, Result, sym, refl, ap, ◌∙◌, inl, inr, arith}
+use Rattle.std.proofs.Common.{◌≡◌, ℕ, ◌+◌, ◌-◌, ◌*◌, ◌/◌, ◌%◌, ◌<◌, true, leb, List, [], ◌∷◌, ◌++◌, length, take, drop, Ok, Err, Result, sym, refl, ap, ◌∙◌, subst, inl, inr, arith}
 use Rattle.std.proofs.lemmas.List.{length-append, length-take-le, take_at, take-append-drop}
 use Rattle.std.proofs.lemmas.Bool.{cases_Bool, le-leb, leb-true}
 use Rattle.std.proofs.lemmas.Bool.Decides.{nat_tests}
 use Rattle.telegram.specs.Kinds.{kind_number, kind_numbered, takes_length}
 use Rattle.telegram.specs.Format.{OrderValue, kind_of, field_bytes, bytes_of, InLists}
-use Rattle.telegram.specs.Reading.{ReadValue.order, ReadValue.end, ReadValue.fault, placed, read_fields, read_kind, read_left, read_at}
+use Rattle.telegram.specs.Reading.{ReadValue, ReadValue.order, ReadValue.end, ReadValue.fault, placed, read_fields, read_kind, read_left, read_at}
 use Rattle.telegram.specs.Laws.{ReadWhereItStands}
 use Rattle.telegram.specs.declared.faults.Fault.{Fault}
-use Rattle.telegram.specs.declared.faults.Fault.TheVariants.{CutShort, UnknownKind, WrongLength}
+use Rattle.telegram.specs.declared.faults.Fault.TheVariants.{CutShort, WrongLength}
 use Rattle.telegram.specs.declared.kinds.Kind.{Kind}
 use Rattle.telegram.specs.declared.kinds.Kind.TheVariants.{Authority, Level, Text, TextWithdrawal, EmergencyStop, Sign, Permission}
 use Rattle.telegram.proofs.Backs.{numbered, short, length_taken, fields_back, Written, fields_only}
 
 -- The number of a kind is the one that it is found by.
-pub numbered_only : (n : ℕ) (k : Kind) → kind_numbered n ≡ Some k → n ≡ kind_number k
+pub numbered_only : (n : ℕ) (k : Kind) → kind_numbered n ≡ Ok k → n ≡ kind_number k
 numbered_only n Authority h = grind (arith, nat_tests)
 numbered_only n Level h = grind (arith, nat_tests)
 numbered_only n Text h = grind (arith, nat_tests)
@@ -25,7 +25,7 @@ numbered_only n Permission h = grind (arith, nat_tests)
 
 -- An order of a kind that takes its length, all of whose bytes are there, is what its fields say.
 pub kind_back : (p : ℕ) (o : OrderValue) (rest : List ℕ) → InLists o →
-    read_kind p (Some (kind_of o)) (2 + length (field_bytes o)) (field_bytes o ++ rest) ≡ order o p (p + length (bytes_of o))
+    read_kind p (Ok (kind_of o)) (2 + length (field_bytes o)) (field_bytes o ++ rest) ≡ order o p (p + length (bytes_of o))
 kind_back p o rest h =
     let n = 2 + length (field_bytes o) in
     let long : leb n (2 + length (field_bytes o ++ rest)) ≡ true = le-leb _ _ (omega (arith, length-append (field_bytes o) rest)) in
@@ -43,8 +43,8 @@ order_back p o rest h =
     let k : b / 16 ≡ kind_number (kind_of o) = omega arith in
     let l : b % 16 * 256 + n % 256 ≡ n = omega arith in
     ap (λ (x : ℕ). read_kind p (kind_numbered x) (b % 16 * 256 + n % 256) bs) k
-    ∙ ap (λ (x : Option Kind). read_kind p x (b % 16 * 256 + n % 256) bs) (numbered (kind_of o))
-    ∙ ap (λ (x : ℕ). read_kind p (Some (kind_of o)) x bs) l ∙ kind_back p o rest h
+    ∙ ap (λ (x : Result Kind Fault). read_kind p x (b % 16 * 256 + n % 256) bs) (numbered (kind_of o))
+    ∙ ap (λ (x : ℕ). read_kind p (Ok (kind_of o)) x bs) l ∙ kind_back p o rest h
 
 -- A refusal is no order.
 pub no_order_fault : (f : Fault) (p : ℕ) (o : OrderValue) (first after : ℕ) → fault f p ≡ order o first after → ⊥
@@ -69,7 +69,7 @@ pub record Found (p : ℕ) (k : Kind) (n : ℕ) (bs : List ℕ) (o : OrderValue)
   pub to : after ≡ p + n
 
 -- What is read with a kind and a length is such an order.
-pub kind_only : (p : ℕ) (k : Kind) (n : ℕ) (bs : List ℕ) (o : OrderValue) (first after : ℕ) → read_kind p (Some k) n bs ≡ order o first after →
+pub kind_only : (p : ℕ) (k : Kind) (n : ℕ) (bs : List ℕ) (o : OrderValue) (first after : ℕ) → read_kind p (Ok k) n bs ≡ order o first after →
     Found p k n bs o first after
 kind_only p k n bs o first after h = elim (cases_Bool (takes_length k n)) [
   | inl t ↦ elim (cases_Bool (leb n (2 + length bs))) [
@@ -86,10 +86,10 @@ kind_only p k n bs o first after h = elim (cases_Bool (takes_length k n)) [
 ]
 
 -- An order is read only with a kind that there is.
-pub some_kind_only : (p : ℕ) (r : Option Kind) (n : ℕ) (bs : List ℕ) (o : OrderValue) (first after : ℕ) → read_kind p r n bs ≡ order o first after →
-    (k : Kind) × (r ≡ Some k) × Found p k n bs o first after
-some_kind_only p None n bs o first after h = absurd (no_order_fault UnknownKind p o first after h)
-some_kind_only p (Some k) n bs o first after h = (k, refl, kind_only p k n bs o first after h)
+pub some_kind_only : (p : ℕ) (r : Result Kind Fault) (n : ℕ) (bs : List ℕ) (o : OrderValue) (first after : ℕ) → read_kind p r n bs ≡ order o first after →
+    (k : Kind) × (r ≡ Ok k) × Found p k n bs o first after
+some_kind_only p (Err f) n bs o first after h = absurd (no_order_fault f p o first after h)
+some_kind_only p (Ok k) n bs o first after h = (k, refl, kind_only p k n bs o first after h)
 
 -- Two bytes and the bytes after them, each as in the other list.
 same_bytes : (a b c d : ℕ) (bs cs : List ℕ) → a ≡ b → c ≡ d → bs ≡ cs → a ∷ c ∷ bs ≡ b ∷ d ∷ cs
@@ -124,3 +124,7 @@ read_where_it_stands t p o first after = (
       let to = h.3 in
       ap (read_left p) front ∙ back ∙ cc,
 )
+
+-- The law holds of every answer that is the defined one.
+pub answer_stands : (t : List ℕ) (p : ℕ) (v : ReadValue) → v ≡ read_at t p → ReadWhereItStands t p v
+answer_stands t p v h = subst (ReadWhereItStands t p) (sym h) (read_where_it_stands t p)

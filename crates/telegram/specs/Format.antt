@@ -1,5 +1,6 @@
 -- The format: what an order says, and the bytes that say it.
 use Rattle.std.specs.Prelude.{◌≡◌, ℕ, ◌+◌, ◌*◌, ◌/◌, ◌%◌, ◌<◌, ◌≤◌, Bool, true, cond, ◌&&◌, ◌||◌, List, [], ◌∷◌, ◌++◌, length, nat_le}
+use Rattle.std.specs.List.{list_all}
 use Rattle.telegram.specs.Kinds.{kind_number}
 use Rattle.telegram.specs.Modes.{mode_bits}
 use Rattle.telegram.specs.declared.modes.Mode.{Mode}
@@ -61,8 +62,7 @@ text_byte b = (nat_le 32 b && nat_le b 126) || (nat_le 160 b && nat_le b 255)
 
 -- Every byte of a text may stand in one.
 abbrev pub sayable : List ℕ → Bool
-sayable [] = true
-sayable (b ∷ bs) = text_byte b && sayable bs
+sayable t = list_all text_byte t
 
 -- The fields of an order are in their lists. A number is any byte.
 abbrev pub InLists : OrderValue → Type 0

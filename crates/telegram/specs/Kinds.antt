@@ -1,5 +1,7 @@
 -- The kinds of orders: the number of each, and the lengths that it takes.
-use Rattle.std.specs.Prelude.{ℕ, Bool, cond, ◌&&◌, Some, None, Option, ◌==◌, nat_le}
+use Rattle.std.specs.Prelude.{ℕ, Bool, cond, ◌&&◌, Ok, Err, Result, ◌==◌, nat_le}
+use Rattle.telegram.specs.declared.faults.Fault.{Fault}
+use Rattle.telegram.specs.declared.faults.Fault.TheVariants.{UnknownKind}
 use Rattle.telegram.specs.declared.kinds.Kind.{Kind}
 use Rattle.telegram.specs.declared.kinds.Kind.TheVariants.{Authority, Level, Text, TextWithdrawal, EmergencyStop, Sign, Permission}
 
@@ -12,17 +14,17 @@ kind_number EmergencyStop = 5
 kind_number Sign = 6
 kind_number Permission = 7
 
--- The kind with a number, if there is one.
-abbrev pub kind_numbered : ℕ → Option Kind
+-- The kind with a number, or the refusal of a number that no kind has.
+abbrev pub kind_numbered : ℕ → Result Kind Fault
 kind_numbered n =
-    cond (n == 1) (Some Authority)
-    (cond (n == 2) (Some Level)
-    (cond (n == 3) (Some Text)
-    (cond (n == 4) (Some TextWithdrawal)
-    (cond (n == 5) (Some EmergencyStop)
-    (cond (n == 6) (Some Sign)
-    (cond (n == 7) (Some Permission)
-    None))))))
+    cond (n == 1) (Ok Authority)
+    (cond (n == 2) (Ok Level)
+    (cond (n == 3) (Ok Text)
+    (cond (n == 4) (Ok TextWithdrawal)
+    (cond (n == 5) (Ok EmergencyStop)
+    (cond (n == 6) (Ok Sign)
+    (cond (n == 7) (Ok Permission)
+    (Err UnknownKind)))))))
 
 -- Whether an order of a kind may have this length, in bytes, the first two included.
 abbrev pub takes_length : Kind → ℕ → Bool

@@ -1,11 +1,7 @@
 -- The law of the reader: an order is read exactly where its bytes stand.
-use Rattle.std.specs.Prelude.{◌≡◌, ℕ, ◌+◌, List, length, take, drop}
+use Rattle.std.specs.Prelude.{◌≡◌, ◌↔◌, ℕ, ◌+◌, List, length, take, drop}
 use Rattle.telegram.specs.Format.{OrderValue, InLists, bytes_of}
 use Rattle.telegram.specs.Reading.{ReadValue, ReadValue.order, ReadValue.end, ReadValue.fault}
-
--- Each follows from the other.
-abbrev pub ExactlyWhen : Type 0 → Type 0 → Type 0
-ExactlyWhen P Q = (P → Q) × (Q → P)
 
 -- These bytes stand in a telegram at a place.
 abbrev pub Stands : List ℕ → List ℕ → ℕ → Type 0
@@ -15,8 +11,7 @@ Stands bs t p = take (length bs) (drop p t) ≡ bs
 -- its first byte is then at the place, and the byte after it follows its bytes.
 abbrev pub ReadWhereItStands : List ℕ → ℕ → ReadValue → Type 0
 ReadWhereItStands t p answer = (o : OrderValue) (first after : ℕ) →
-    ExactlyWhen (answer ≡ order o first after)
-    (InLists o × Stands (bytes_of o) t p × (first ≡ p) × (after ≡ p + length (bytes_of o)))
+    (answer ≡ order o first after) ↔ (InLists o × Stands (bytes_of o) t p × (first ≡ p) × (after ≡ p + length (bytes_of o)))
 
 -- Where the reader stands after an answer: past an order, else where it stood.
 abbrev pub place_after : ℕ → ReadValue → ℕ

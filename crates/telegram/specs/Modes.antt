@@ -1,5 +1,5 @@
 -- The modes: code, two-letter name, and the two bits that name one in an authority.
-use Rattle.std.specs.Prelude.{ℕ, cond, List, codes, ◌==◌}
+use Rattle.std.specs.Prelude.{ℕ, List, [], ◌∷◌, codes}
 use Rattle.telegram.specs.declared.modes.Mode.{Mode}
 use Rattle.telegram.specs.declared.modes.Mode.TheVariants.{Standby, StaffResponsible, FullSupervision, OnSight, LimitedSupervision, Shunting, Unfitted, Trip, PostTrip, SystemFailure}
 
@@ -40,6 +40,6 @@ mode_bits Trip = 3
 mode_bits PostTrip = 3
 mode_bits SystemFailure = 3
 
--- The mode that bits below 3 name.
-abbrev pub listed_mode : ℕ → Mode
-listed_mode bits = cond (bits == 0) FullSupervision (cond (bits == 1) OnSight LimitedSupervision)
+-- The modes that an authority may name, each at the value of its two bits.
+abbrev pub listed_modes : List Mode
+listed_modes = FullSupervision ∷ OnSight ∷ LimitedSupervision ∷ []

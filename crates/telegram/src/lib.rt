@@ -13,8 +13,8 @@ mod tests;
 mod whole;
 
 pub use examples::halt_telegram;
-pub use faults::Fault;
+pub use faults::{Fault, Refused};
 pub use modes::Mode;
-pub use orders::Order;
-pub use reader::{Read, Reader};
-pub use whole::{Ending, Placed, Reading, read_all};
+pub use orders::{Order, Placed};
+pub use reader::Reader;
+pub use whole::{Reading, read_all};

@@ -1,37 +1,26 @@
 ghost use Rattle.std.specs.Prelude.{◌≡◌};
-ghost use Rattle.telegram.specs.Modes.{mode_code, mode_name, listed_mode};
+ghost use Rattle.telegram.specs.Modes.{mode_code, mode_name};
 
 // The ten modes of the unit.
-#[derive(Clone, Copy, PartialEq, Eq)]
+#[derive(Clone, Copy, Debug, PartialEq, Eq)]
 pub enum Mode {
-    Standby,
-    StaffResponsible,
-    FullSupervision,
-    OnSight,
-    LimitedSupervision,
-    Shunting,
-    Unfitted,
-    Trip,
-    PostTrip,
-    SystemFailure,
+    Standby = 0,
+    StaffResponsible = 1,
+    FullSupervision = 2,
+    OnSight = 3,
+    LimitedSupervision = 4,
+    Shunting = 5,
+    Unfitted = 6,
+    Trip = 7,
+    PostTrip = 8,
+    SystemFailure = 9,
 }
 
 impl Mode {
     pub fn code(self) -> u8
         ensures { result ≡ mode_code self }
     {
-        match self {
-            Mode::Standby => 0,
-            Mode::StaffResponsible => 1,
-            Mode::FullSupervision => 2,
-            Mode::OnSight => 3,
-            Mode::LimitedSupervision => 4,
-            Mode::Shunting => 5,
-            Mode::Unfitted => 6,
-            Mode::Trip => 7,
-            Mode::PostTrip => 8,
-            Mode::SystemFailure => 9,
-        }
+        self as u8
     }
 
     pub fn name(self) -> &'static str
@@ -52,13 +41,9 @@ impl Mode {
     }
 }
 
-// The mode that two bits of an authority name, which are below 3.
-pub(crate) fn listed_mode(bits: u8) -> Mode
-    ensures { result ≡ listed_mode bits }
-{
-    match bits {
-        0 => Mode::FullSupervision,
-        1 => Mode::OnSight,
-        _ => Mode::LimitedSupervision,
-    }
-}
+// The modes that an authority may name, each at the value of its two bits.
+pub(crate) const LISTED_MODES: [Mode; 3] = [
+    Mode::FullSupervision,
+    Mode::OnSight,
+    Mode::LimitedSupervision,
+];

@@ -1,7 +1,7 @@
 use crate::modes::Mode;
 
 // What an order says. A text borrows its bytes from the telegram.
-#[derive(Clone, Copy)]
+#[derive(Clone, Copy, Debug, PartialEq, Eq)]
 pub enum Order<'a> {
     Authority(Mode),
     Level(u8),
@@ -14,4 +14,12 @@ pub enum Order<'a> {
     EmergencyStop,
     Sign,
     Permission,
+}
+
+// An order with the place of its first byte and that of the byte after it.
+#[derive(Clone, Copy, Debug, PartialEq, Eq)]
+pub struct Placed<'a> {
+    pub order: Order<'a>,
+    pub first: usize,
+    pub after: usize,
 }

@@ -1,28 +1,11 @@
 ghost use Rattle.std.specs.Prelude.{◌≡◌};
-ghost use Rattle.telegram.specs.Reading.{answer_of, read_at, ReadValue.fault as fault_at};
+ghost use Rattle.telegram.specs.Reading.{answer_at, answer_of, read_at};
 ghost use Rattle.telegram.specs.Laws.{ReadWhereItStands, place_after};
 
-use crate::faults::Fault;
+use crate::faults::{Fault, Refused};
 use crate::fields::{read_fields, rest};
 use crate::kinds::Kind;
-use crate::orders::Order;
-
-// What stands at a place of a telegram. `first` is the place of an order's first byte, `after` that of the byte after it.
-#[derive(Clone, Copy)]
-pub enum Read<'a> {
-    Order {
-        order: Order<'a>,
-        first: usize,
-        after: usize,
-    },
-    End {
-        place: usize,
-    },
-    Fault {
-        fault: Fault,
-        first: usize,
-    },
-}
+use crate::orders::Placed;
 
 // A telegram, read from its start, and the place of the next byte to read.
 #[derive(Drop)]
@@ -45,55 +28,43 @@ impl<'a> Reader<'a> {
         self.place
     }
 
-    // Reads one order and goes on to the byte after it; the end and a fault are answered again at each further call.
-    pub fn next(&mut self) -> Read<'a>
-        ensures answer { answer_of result ≡ read_at self.old.telegram.now self.old.place }
-        ensures place { self.new.place ≡ place_after self.old.place (answer_of result) }
+    // Reads one order and goes on to the byte after it; at the end the answer is `None`, and the reader stands there.
+    // The end and a fault are answered again at each further call. So this is no Iterator: it would give the fault for ever.
+    pub fn next(&mut self) -> Result<Option<Placed<'a>>, Refused>
+        ensures answer { answer_of self.new.place result ≡ read_at self.old.telegram.now self.old.place }
+        ensures place { self.new.place ≡ place_after self.old.place (answer_of self.new.place result) }
         ensures telegram { self.new.telegram ≡ self.old.telegram }
-        ensures law { ReadWhereItStands self.old.telegram.now self.old.place (answer_of result) }
+        ensures law { ReadWhereItStands self.old.telegram.now self.old.place (answer_of self.new.place result) }
     {
-        let read = read_at(self.telegram, self.place);
-        self.place = match read {
-            Read::Order { after, .. } => after,
-            Read::End { .. } | Read::Fault { .. } => self.place,
-        };
-        read
+        let first = self.place;
+        let read = read_at(self.telegram, first).map_err(|fault| Refused { fault, first })?;
+        if let Some(placed) = read {
+            self.place = placed.after;
+        }
+        Ok(read)
     }
-}
-
-fn refused<'a>(fault: Fault, first: usize) -> Read<'a>
-    ensures { answer_of result ≡ fault_at fault first }
-{
-    Read::Fault { fault, first }
 }
 
 // What stands at a place of a telegram, the refusals in their order.
-fn read_at(telegram: &[u8], place: usize) -> Read<'_>
-    ensures { answer_of result ≡ read_at telegram.now place }
+fn read_at(telegram: &[u8], place: usize) -> Result<Option<Placed<'_>>, Fault>
+    ensures { answer_at place result ≡ read_at telegram.now place }
 {
     let left = rest(telegram, place);
-    if left.is_empty() {
-        return Read::End { place };
-    }
-    if left.len() == 1 {
-        return refused(Fault::CutShort, place);
-    }
-    let Some(kind) = Kind::numbered(left[0] / 16) else {
-        return refused(Fault::UnknownKind, place);
+    let (high, low) = match left {
+        [] => return Ok(None),
+        [_] => return Err(Fault::CutShort),
+        [high, low, ..] => (*high, *low),
     };
-    let length = (left[0] % 16) as usize * 256 + left[1] as usize;
+    let kind = Kind::try_from(high / 16)?;
+    let length = (high % 16) as usize * 256 + low as usize;
     if !kind.takes_length(length) {
-        return refused(Fault::WrongLength, place);
+        return Err(Fault::WrongLength);
     }
-    if left.len() < length {
-        return refused(Fault::CutShort, place);
-    }
-    match read_fields(kind, &left[2..length]) {
-        Ok(order) => Read::Order {
-            order,
-            first: place,
-            after: place + length,
-        },
-        Err(fault) => refused(fault, place),
-    }
+    let fields = left.get(2..length).ok_or(Fault::CutShort)?;
+    let order = read_fields(kind, fields)?;
+    Ok(Some(Placed {
+        order,
+        first: place,
+        after: place + length,
+    }))
 }

@@ -2,24 +2,24 @@ use super::*;
 use std::process::Abort;
 use std::test::Fail;
 
-// An answer in short: 0 and the byte after an order, 1 and the place of the end, or a fault's number and its order's first byte.
-fn outcome(read: Read<'_>) -> (u8, usize) {
-    match read {
-        Read::Order { after, .. } => (0, after),
-        Read::End { place } => (1, place),
-        Read::Fault { fault, first } => (fault.number(), first),
+// The next answer in short: 0 and the byte after an order, or how the telegram ends.
+fn outcome(reader: &mut Reader<'_>) -> (u8, usize) {
+    match reader.next() {
+        Ok(Some(placed)) => (0, placed.after),
+        Ok(None) => ending_outcome(Ok(reader.place())),
+        Err(refused) => ending_outcome(Err(refused)),
     }
 }
 
 fn first_outcome(telegram: &[u8]) -> (u8, usize) {
-    let mut reader = Reader::new(telegram);
-    outcome(reader.next())
+    outcome(&mut Reader::new(telegram))
 }
 
-fn ending_outcome(ending: Ending) -> (u8, usize) {
+// An ending in short: 1 and the place of the end, or a fault's number and its order's first byte.
+fn ending_outcome(ending: Result<usize, Refused>) -> (u8, usize) {
     match ending {
-        Ending::End { place } => (1, place),
-        Ending::Fault { fault, first } => (fault.number(), first),
+        Ok(place) => (1, place),
+        Err(refused) => (refused.fault.number(), refused.first),
     }
 }
 
@@ -118,15 +118,19 @@ fn the_text_is_a_part_of_the_telegram(rt: HostRuntime) -> Result<(), Fail> {
     let telegram = halt_telegram();
     let mut reader = Reader::new(&telegram);
     match reader.next() {
-        Read::Order {
-            order: Order::Text {
-                number,
-                wanted,
-                text,
-            },
-            first,
-            after,
-        } => {
+        Ok(
+            Some(
+                Placed {
+                    order: Order::Text {
+                        number,
+                        wanted,
+                        text,
+                    },
+                    first,
+                    after,
+                },
+            ),
+        ) => {
             assert!(rt;
                 (number == 7) & wanted & (text == b"Halt".as_slice()) & (first == 0) & (after == 8)
             );
@@ -140,15 +144,15 @@ fn the_text_is_a_part_of_the_telegram(rt: HostRuntime) -> Result<(), Fail> {
 fn the_end_and_a_fault_are_answered_again(rt: HostRuntime) {
     let ends = [0x50, 2];
     let mut reader = Reader::new(&ends);
-    assert_eq!(rt; outcome(reader.next()), (0, 2));
+    assert_eq!(rt; outcome(&mut reader), (0, 2));
     for _ in 0..3 {
-        assert_eq!(rt; (outcome(reader.next()), reader.place()), ((1, 2), 2));
+        assert_eq!(rt; (outcome(&mut reader), reader.place()), ((1, 2), 2));
     }
     let faulty = [0x50, 2, 0x10, 3, 0x41, 0x50, 2];
     let mut reader = Reader::new(&faulty);
-    assert_eq!(rt; outcome(reader.next()), (0, 2));
+    assert_eq!(rt; outcome(&mut reader), (0, 2));
     for _ in 0..3 {
-        assert_eq!(rt; (outcome(reader.next()), reader.place()), ((24, 2), 2));
+        assert_eq!(rt; (outcome(&mut reader), reader.place()), ((24, 2), 2));
     }
 }
 

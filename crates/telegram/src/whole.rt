@@ -1,31 +1,16 @@
 ghost use Rattle.std.specs.Prelude.{◌≡◌, IfOk, OnErr};
 ghost use Rattle.telegram.specs.Whole.{whole_of, read_whole, WholeTelegram, EndsWithin, BeginsWithOrder};
 
-use crate::faults::Fault;
-use crate::orders::Order;
-use crate::reader::{Read, Reader};
+use crate::faults::Refused;
+use crate::orders::Placed;
+use crate::reader::Reader;
 use std::alloc::{AllocError, Global};
 
-// An order with the place of its first byte and that of the byte after it.
-#[derive(Clone, Copy)]
-pub struct Placed<'a> {
-    pub order: Order<'a>,
-    pub first: usize,
-    pub after: usize,
-}
-
-// How the reading of a telegram ended: at its end, or at an order that is refused.
-#[derive(Clone, Copy)]
-pub enum Ending {
-    End { place: usize },
-    Fault { fault: Fault, first: usize },
-}
-
-// All that was read of a telegram.
+// All that was read of a telegram: the orders, then the place of its end or the order that is refused.
 #[derive(Drop)]
 pub struct Reading<'a> {
     pub orders: Vec<Placed<'a>>,
-    pub ending: Ending,
+    pub ending: Result<usize, Refused>,
 }
 
 // Reads a telegram to its end or to the first fault.
@@ -39,17 +24,9 @@ pub fn read_all<'a>(heap: Global, telegram: &'a [u8]) -> Result<Reading<'a>, All
     let mut orders = Vec::new(heap);
     let ending = loop {
         match reader.next() {
-            Read::Order {
-                order,
-                first,
-                after,
-            } => orders.push(Placed {
-                order,
-                first,
-                after,
-            })?,
-            Read::End { place } => break Ending::End { place },
-            Read::Fault { fault, first } => break Ending::Fault { fault, first },
+            Ok(Some(placed)) => orders.push(placed)?,
+            Ok(None) => break Ok(reader.place()),
+            Err(refused) => break Err(refused),
         }
     };
     Ok(Reading { orders, ending })

@@ -1,15 +1,12 @@
-use Rattle.std.proofs.Common.{sym, subst, rules}
-use Rattle.telegram.specs.Laws.{ReadWhereItStands}
-use Rattle.telegram.proofs.Standing.{read_where_it_stands}
+use Rattle.std.proofs.Common.{Ok, rules}
+use Rattle.telegram.specs.Reading.{answer_of}
+use Rattle.telegram.proofs.Standing.{answer_stands}
 use Rattle.telegram.proofs.reader.Reader.next.Goals as goal
 
-pub returns : goal.returns
-returns c =
-    let t = c.args.self.now.telegram.now in
-    let p = c.args.self.now.place in
-    record {
-      answer = c.read_at-read.ensures;
-      place = search rules;
-      telegram = search rules;
-      law = subst (ReadWhereItStands t p) (sym c.read_at-read.ensures) (read_where_it_stands t p);
-    }
+pub returns-in_err-read-clause-law : goal.returns-in_err-read-clause-law
+returns-in_err-read-clause-law c =
+    answer_stands c.args.self.now.telegram.now c.args.self.now.place (answer_of c.args.self.now.place c.from_residual.result) (search rules)
+
+pub returns-clause-law : goal.returns-clause-law
+returns-clause-law c =
+    answer_stands c.args.self.now.telegram.now c.args.self.now.place (answer_of c.match-read.self.place (Ok c.in_ok-read.read)) (search rules)
