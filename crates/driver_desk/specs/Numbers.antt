@@ -1,5 +1,5 @@
 -- The numbers of levels, classes and refusals.
-use Rattle.std.specs.Prelude.{ℕ, Bool, cond, Some, None, Option, ◌==◌}
+use Rattle.std.specs.Prelude.{ℕ, Bool, cond, Some, None, Option, Ok, Err, Result, ◌==◌, nat_le}
 use Rattle.telegram.specs.Modes.{mode_code}
 use Rattle.telegram.specs.declared.modes.Mode.{Mode}
 use Rattle.driver_desk.specs.declared.level.Level.{Level}
@@ -17,6 +17,10 @@ level_number Two = 2
 -- the level with a number up to 2
 abbrev pub level_of : ℕ → Level
 level_of n = cond (n == 0) Zero (cond (n == 1) One Two)
+
+-- the level with a number; those above 2 are outside the list
+abbrev pub listed_level : ℕ → Result Level Refusal
+listed_level n = cond (nat_le n 2) (Ok (level_of n)) (Err OutsideList)
 
 abbrev pub class_number : Class → ℕ
 class_number class.Trip = 0

@@ -1,7 +1,6 @@
 -- The order of requests. Assumes nothing.
 use Rattle.std.specs.Prelude.{◌≡◌, true, false}
-use Rattle.std.proofs.Common.{inl, inr, arith}
-use Rattle.std.proofs.lemmas.Bool.{cases_Bool}
+use Rattle.std.proofs.Common.{arith}
 use Rattle.std.proofs.lemmas.Bool.Decides.{nat_tests}
 use Rattle.ordering.specs.Order.{exactly_one}
 use Rattle.driver_desk.specs.Requests.{before, same_turn}
@@ -21,13 +20,4 @@ before-carries a b c e f = grind (arith, nat_tests)
 
 -- one is before the other, or they have the same turn
 pub one_of_three : (a b : Request) → exactly_one (before a b) (before b a) (same_turn a b) ≡ true
-one_of_three a b = elim (cases_Bool (before a b)) [
-  | inl e ↦
-      let f : before b a ≡ false = one_way a b e in
-      let g : same_turn a b ≡ false = grind (arith, nat_tests) in
-      simp (e, f, g)
-  | inr e ↦ elim (cases_Bool (before b a)) [
-    | inl f ↦ let g : same_turn a b ≡ false = grind (arith, nat_tests) in simp (e, f, g)
-    | inr f ↦ let g : same_turn a b ≡ true = grind (arith, nat_tests) in simp (e, f, g)
-  ]
-]
+one_of_three a b = grind (arith, nat_tests)

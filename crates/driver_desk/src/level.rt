@@ -1,22 +1,36 @@
 ghost use Rattle.std.specs.Prelude.{◌≡◌};
-ghost use Rattle.driver_desk.specs.Numbers.{level_number};
+ghost use Rattle.driver_desk.specs.Numbers.{level_number, listed_level};
+
+use crate::refusal::Refusal;
 
 // The three levels.
-#[derive(Clone, Copy, PartialEq, Eq)]
+#[derive(Clone, Copy, PartialEq, Eq, Debug)]
 pub enum Level {
-    Zero,
-    One,
-    Two,
+    Zero = 0,
+    One = 1,
+    Two = 2,
 }
 
 impl Level {
     pub fn number(self) -> u8
         ensures { result ≡ level_number self }
     {
-        match self {
-            Level::Zero => 0,
-            Level::One => 1,
-            Level::Two => 2,
+        self as u8
+    }
+}
+
+// A number above 2 is outside the list of levels.
+impl TryFrom<u8> for Level {
+    type Error = Refusal;
+
+    ghost try_from_gives = { λ number result. result ≡ listed_level number };
+
+    fn try_from(number: u8) -> Result<Level, Refusal> {
+        match number {
+            0 => Ok(Level::Zero),
+            1 => Ok(Level::One),
+            2 => Ok(Level::Two),
+            _ => Err(Refusal::OutsideList),
         }
     }
 }

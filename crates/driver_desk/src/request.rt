@@ -1,4 +1,4 @@
-ghost use Rattle.std.specs.Prelude.{◌≡◌, ◌<◌, Some};
+ghost use Rattle.std.specs.Prelude.{◌≡◌, Some};
 ghost use Rattle.driver_desk.specs.Numbers.{class_number};
 ghost use Rattle.driver_desk.specs.Requests.{before as before_other, same_turn};
 ghost use Rattle.driver_desk.specs.Words.{request_words};
@@ -8,31 +8,25 @@ use ordering::order::Ordered;
 use std::fmt;
 
 // What a request asks the driver to acknowledge.
-#[derive(Clone, Copy, PartialEq, Eq)]
+#[derive(Clone, Copy, PartialEq, Eq, PartialOrd, Ord, Debug)]
 pub enum Class {
-    Trip,
-    Mode,
-    Level,
-    Hold,
-    Text,
+    Trip = 0,
+    Mode = 1,
+    Level = 2,
+    Hold = 3,
+    Text = 4,
 }
 
 impl Class {
     pub fn number(self) -> u8
         ensures { result ≡ class_number self }
     {
-        match self {
-            Class::Trip => 0,
-            Class::Mode => 1,
-            Class::Level => 2,
-            Class::Hold => 3,
-            Class::Text => 4,
-        }
+        self as u8
     }
 }
 
 // A request to the driver, with the cycle in which it was raised. A timed one brakes when it is overdue.
-#[derive(Clone, Copy, PartialEq, Eq)]
+#[derive(Clone, Copy, PartialEq, Eq, Debug)]
 pub struct Request {
     pub class: Class,
     pub number: u8,
@@ -51,11 +45,7 @@ impl Ordered for Request {
     ghost carries = { before-carries };
 
     fn is_before(&self, other: &Request) -> bool {
-        let class = self.class.number();
-        let other_class = other.class.number();
-        (self.raised < other.raised)
-            | ((self.raised == other.raised)
-                & ((class < other_class) | ((class == other_class) & (self.number < other.number))))
+        (self.raised, self.class, self.number) < (other.raised, other.class, other.number)
     }
 }
 
@@ -65,12 +55,7 @@ impl fmt::Display for Request {
 
     fn fmt<W: fmt::Write>(&self, f: &mut fmt::Formatter<W>) -> fmt::Result {
         let class = self.class.number();
-        let number = self.number;
-        let raised = self.raised;
-        if self.timed {
-            write!(f, "{class}:{number}@{raised}t")
-        } else {
-            write!(f, "{class}:{number}@{raised}u")
-        }
+        let mark = if self.timed { 't' } else { 'u' };
+        write!(f, "{class}:{}@{}{mark}", self.number, self.raised)
     }
 }

@@ -1,10 +1,10 @@
-ghost use Rattle.std.specs.Prelude.{◌≡◌, ◌-◌, ◌%◌, ◌<◌, false, is_some, Some, None, MatchResult};
+ghost use Rattle.std.specs.Prelude.{◌≡◌, false, is_some, Some, None, MatchResult};
 ghost use Rattle.driver_desk.specs.Records.{record_of, record_refusal};
 
 use crate::refusal::Refusal;
 
 // The four numbers of a train: driver number, length in m, brake percentage, maximum speed in km/h.
-#[derive(Clone, Copy)]
+#[derive(Clone, Copy, PartialEq, Eq, Debug)]
 pub struct TrainRecord {
     pub driver: u32,
     pub length: u16,
@@ -20,6 +20,7 @@ pub struct Draft {
 }
 
 // A record that the driver has confirmed.
+// It repeats the draft's field and fact and wraps no draft, so that a clause reads `train` of either one.
 #[derive(Drop)]
 pub struct Confirmed {
     train: TrainRecord,
@@ -30,16 +31,16 @@ impl Draft {
     pub fn new(driver: u32, length: u32, percentage: u32, speed: u32) -> Result<Draft, Refusal>
         ensures { MatchResult result (λ d. (d.train ≡ record_of driver length percentage speed) × (record_refusal (record_of driver length percentage speed) ≡ None)) (λ e. record_refusal (record_of driver length percentage speed) ≡ Some e) }
     {
-        if driver == 0 || driver > 99999999 {
+        if !(1..=99999999).contains(&driver) {
             return Err(Refusal::DriverNumber);
         }
-        if length == 0 || length > 4095 {
+        if !(1..=4095).contains(&length) {
             return Err(Refusal::TrainLength);
         }
-        if percentage < 10 || percentage > 250 {
+        if !(10..=250).contains(&percentage) {
             return Err(Refusal::BrakePercentage);
         }
-        if speed % 5 != 0 || speed < 5 || speed > 600 {
+        if speed % 5 != 0 || !(5..=600).contains(&speed) {
             return Err(Refusal::MaximumSpeed);
         }
         let train = TrainRecord {
@@ -62,8 +63,7 @@ impl Draft {
     pub fn no(self) -> TrainRecord
         ensures { result ≡ self.train }
     {
-        let Draft { train } = self;
-        train
+        self.train
     }
 }
 
