@@ -203,7 +203,7 @@ impl<E: TrainEnd> Cab<E> {
         request
     }
 
-    // Raises the only request of its class.
+    // Raises the only request of its class. Its callers know that none of the class waits, and would each show `room` and `fresh` anew for `raise`.
     pub fn raise_alone(&mut self, class: Class, number: u8, timed: bool) -> Request
         requires { number_of class (view E.speed_of E.line_of self.old).waiting ≡ 0 }
         ensures state { view E.speed_of E.line_of self.new ≡ raised_in class number timed (view E.speed_of E.line_of self.old) }

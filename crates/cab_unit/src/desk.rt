@@ -7,7 +7,7 @@ ghost use Rattle.driver_desk.specs.Numbers.{level_of};
 use driver_desk::Level;
 use telegram::Mode;
 
-// The level with a number up to 2.
+// The level with a number up to 2. An accepted order's level is in the list, so there is no refusal to answer as `try_from` would.
 pub fn level_numbered(number: u8) -> Level
     ensures { result ≡ level_of number }
 {

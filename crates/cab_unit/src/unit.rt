@@ -16,8 +16,10 @@ use telegram::{Mode, Order};
 use train_end::{BrakeLine, TrainEnd};
 
 // The unit of one desk. It owns its train end; switching off hands that back.
+// Clauses read `cab`: a refused call leaves each part of it as before, so a model would have to keep them all.
 pub struct Unit<E> {
     cab: Cab<E>,
+    // Between calls: the moves that a change is made of do not keep the facts one by one, so a cab does not carry them.
     ghost facts: { ∥ Facts (bare cab.desk (ordered cab.waiting.count cab.waiting.items)) ∥₁ },
 }
 
