@@ -1,5 +1,5 @@
 ghost use Rattle.std.specs.Prelude.{◌≡◌, ◌+◌, ◌-◌, ◌<◌, ◌≤◌, false, if◌then◌else◌, Some, None};
-ghost use Rattle.cab_unit.specs.Buttons.{acknowledgeable, button_number, settable as is_settable, enabled, buttons_of};
+ghost use Rattle.cab_unit.specs.Buttons.{button_number, settable as is_settable, enabled, buttons_of};
 ghost use Rattle.cab_unit.specs.Line.{line_rule, settled};
 ghost use Rattle.cab_unit.specs.Moves.{entered, withdrawn_at, raised as raised_in, request as request_in};
 ghost use Rattle.cab_unit.specs.Places.{limit};
@@ -55,13 +55,6 @@ impl Done {
     }
 }
 
-// A trip and a hold are acknowledged only when standing.
-fn can_acknowledge(stands: bool, first: Option<Request>) -> bool
-    ensures { result ≡ acknowledgeable stands first }
-{
-    first.is_some_and(|request| stands || !matches!(request.class, Class::Trip | Class::Hold))
-}
-
 fn bit(on: bool, value: u16) -> u16
     ensures value { result ≡ (if on then value else 0) }
     ensures most { result ≤ value }
@@ -87,7 +80,10 @@ impl<E: TrainEnd> Cab<E> {
         let stands = is_standing(self.end.speed());
         let unasked = self.waiting.number_of(Class::Mode) == 0;
         match button {
-            Button::Acknowledge => can_acknowledge(stands, self.waiting.first()),
+            // A trip and a hold are acknowledged only when standing.
+            Button::Acknowledge => self.waiting.first().is_some_and(|request| {
+                stands || !matches!(request.class, Class::Trip | Class::Hold)
+            }),
             Button::Start => is_startable(desk.mode) && stands && self.train.is_some() && unasked && !desk.pending,
             Button::Shunting => desk.mode == Mode::Standby && stands && desk.level != Level::Two && unasked,
             Button::ExitShunting => desk.mode == Mode::Shunting && stands,
@@ -97,6 +93,7 @@ impl<E: TrainEnd> Cab<E> {
         }
     }
 
+    // Added one by one: as a `sum` over a table of the nine, the proof that it fits did not close.
     #[tactic(auto, unfolding(crate::specs::Buttons::buttons_of))]
     fn buttons(&self) -> u16
         ensures { result ≡ buttons_of (view E.speed_of E.line_of self.now) }

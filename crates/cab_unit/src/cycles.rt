@@ -1,6 +1,6 @@
 ghost use Rattle.std.specs.Prelude.{◌≡◌, ◌+◌, ◌-◌, ◌<◌, false, length, None};
 ghost use Rattle.telegram.specs.declared.modes.Mode.TheVariants as modes;
-ghost use Rattle.cab_unit.specs.Cycles.{given, counted, lapsed, watched, cycle_change};
+ghost use Rattle.cab_unit.specs.Cycles.{counted, lapsed, watched, cycle_change};
 ghost use Rattle.cab_unit.specs.Facts.{Facts};
 ghost use Rattle.cab_unit.specs.Moves.{failing};
 ghost use Rattle.driver_desk.specs.Numbers.{is_mode};
@@ -53,19 +53,6 @@ impl<E: TrainEnd> Cab<E> {
         }
     }
 
-    // A cycle before the last: the block's speed, silence, the end of authority, and what a moving train asks for.
-    fn advance(&mut self, block: &[u8]) -> Done
-        requires facts { ∥ Facts (view E.speed_of E.line_of self.old) ∥₁ }
-        requires clock { self.old.cycle < 4294967295 }
-        ensures state { view E.speed_of E.line_of self.new ≡ (watched (lapsed (counted (given (E.reading block.now) (view E.speed_of E.line_of self.old))))).state }
-        ensures done { result ≡ done_of (watched (lapsed (counted (given (E.reading block.now) (view E.speed_of E.line_of self.old))))) }
-    {
-        self.cycle += 1;
-        self.end.give_block(block);
-        self.count_silence();
-        self.watch()
-    }
-
     // System Failure: all requests are withdrawn, authority and any pending start end.
     fn fail(&mut self) -> Done
         ensures state { view E.speed_of E.line_of self.new ≡ failing (view E.speed_of E.line_of self.old) }
@@ -77,7 +64,7 @@ impl<E: TrainEnd> Cab<E> {
         Done::withdrawing(self.waiting.withdraw_all())
     }
 
-    // What an accepted cycle does.
+    // What an accepted cycle does: the block's speed, silence, and what the train asks for; at the last cycle number the unit fails.
     #[tactic(auto, unfolding(crate::specs::Cycles::cycle_change))]
     pub fn cycle_change(&mut self, block: &[u8]) -> Done
         requires { ∥ Facts (view E.speed_of E.line_of self.old) ∥₁ }
@@ -85,7 +72,10 @@ impl<E: TrainEnd> Cab<E> {
         ensures done { result ≡ done_of (cycle_change (E.reading block.now) (view E.speed_of E.line_of self.old)) }
     {
         if self.cycle < u32::MAX {
-            self.advance(block)
+            self.cycle += 1;
+            self.end.give_block(block);
+            self.count_silence();
+            self.watch()
         } else {
             self.fail()
         }
