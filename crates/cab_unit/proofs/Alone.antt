@@ -16,11 +16,9 @@ use Rattle.driver_desk.specs.declared.request.Request.{Request}
 use Rattle.cab_unit.proofs.Queue.{number_other, number_withdrawn}
 
 -- Start: no mode request waits
-pub start_unasked : (n : ℕ) (s : State) → n ≡ 2 → enabled n s ≡ true → number_of class.Mode s.waiting ≡ 0
+pub start_unasked : (s : State) → enabled 2 s ≡ true → number_of class.Mode s.waiting ≡ 0
 unfolding enabled
-start_unasked n s e h =
-    let k : enabled 2 s ≡ true = subst (λ m. enabled m s ≡ true) e h in
-    grind (arith, nat_tests)
+start_unasked s h = grind (arith, nat_tests)
 
 -- after a change of mode no mode request waits
 pub entered-unasked : (m : Mode) (s t : State) → t ≡ entered m s → is_mode s.desk.mode m ≡ false → number_of class.Mode t.waiting ≡ 0

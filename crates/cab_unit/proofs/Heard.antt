@@ -1,5 +1,6 @@
 -- What it tells that a call is not refused. Assumes nothing.
-use Rattle.std.proofs.Common.{◌≡◌, ℕ, Bool, true, false, cond, ◌&&◌, ◌||◌, Some, None, Option, refl, arith}
+use Rattle.std.proofs.Common.{◌≡◌, Bool, true, false, cond, ◌&&◌, ◌||◌, Some, None, Option, sym, refl}
+use Rattle.std.proofs.lemmas.Option.{none-some}
 use Rattle.telegram.specs.declared.modes.Mode.{Mode}
 use Rattle.telegram.specs.declared.modes.Mode.TheVariants.{Standby, StaffResponsible, FullSupervision, OnSight, LimitedSupervision, Shunting, Unfitted, Trip, PostTrip, SystemFailure}
 use Rattle.cab_unit.specs.Buttons.{supervised, startable}
@@ -12,19 +13,15 @@ use Rattle.cab_unit.specs.State.{State}
 use Rattle.driver_desk.specs.declared.refusal.Refusal.{Refusal}
 use Rattle.driver_desk.specs.declared.refusal.Refusal.TheVariants.{InSystemFailure}
 
--- something is not nothing
-pub some-none : {X : Type 0} (x : X) → Some x ≡ None → ⊥
-some-none x h = let z : ◌≡◌ {A = ℕ} 0 1 = cc in omega arith
-
 -- nothing comes of a test that would give something, and what follows gives nothing
 pub cond-none : {X : Type 0} (b : Bool) (x : X) (o : Option X) → cond b (Some x) o ≡ None → (b ≡ false) × (o ≡ None)
-cond-none true x o h = absurd (some-none x h)
+cond-none true x o h = absurd (none-some x (sym h))
 cond-none false x o h = (refl, h)
 
 -- a test that had to pass has passed, and so have those after it
 pub needing-none : (b : Bool) (r : Refusal) (o : Option Refusal) → needing b r o ≡ None → (b ≡ true) × (o ≡ None)
 needing-none true r o h = (refl, h)
-needing-none false r o h = absurd (some-none r h)
+needing-none false r o h = absurd (none-some r (sym h))
 
 -- an accepted call: the unit has not failed, and the call by itself is not refused
 pub accepted : (e : Event) (s : State) → refusal e s ≡ None → (failed s ≡ false) × (call_refusal e s ≡ None)

@@ -6,7 +6,7 @@ use native.Mathlib.Nat.{ℕ_set}
 use Rattle.std.proofs.lemmas.Bool.Decides.{nat_tests}
 use Rattle.telegram.specs.Format.{OrderValue, OrderValue.stop, OrderValue.permission}
 use Rattle.telegram.specs.declared.modes.Mode.TheVariants.{StaffResponsible, Unfitted, Trip}
-use Rattle.cab_unit.specs.Cycles.{counted, lapsed}
+use Rattle.cab_unit.specs.Cycles.{counted}
 use Rattle.cab_unit.specs.Events.{Event.order}
 use Rattle.cab_unit.specs.Facts.{Facts}
 use Rattle.cab_unit.specs.Heard.{hears_stop}
@@ -50,13 +50,13 @@ permission-unasked o s e t h =
     let pending = (needing-none s.desk.pending NotHeard None a).0 in
     ∥∥₁_elim t (ℕ_set _ _) (λ f. (f.1 pending).2)
 
--- the count of silence and its end leave mode and requests, so what a moving train raises finds room
-pub watch_room : (s t u v : State) → ∥ Facts s ∥₁ → t.desk ≡ s.desk → t.waiting ≡ s.waiting → u ≡ counted t → v ≡ lapsed u →
+-- the count of silence leaves mode and requests, so what a moving train raises finds room
+pub watch_room : (s t v : State) → ∥ Facts s ∥₁ → t.desk ≡ s.desk → t.waiting ≡ s.waiting → v ≡ counted t →
     (is_mode v.desk.mode Trip ≡ false → number_of class.Trip v.waiting ≡ 0) × (waits class.Hold 0 v.waiting ≡ false → number_of class.Hold v.waiting ≡ 0)
-unfolding counted lapsed
-watch_room s t u v f d l p q =
-    let mode : v.desk.mode ≡ s.desk.mode = ap (λ x. x.desk.mode) q ∙ ap (λ x. x.desk.mode) p ∙ ap (λ x. x.mode) d in
-    let rest : v.waiting ≡ s.waiting = ap (λ x. x.waiting) q ∙ ap (λ x. x.waiting) p ∙ l in (
+unfolding counted
+watch_room s t v f d l p =
+    let mode : v.desk.mode ≡ s.desk.mode = ap (λ x. x.desk.mode) p ∙ ap (λ x. x.mode) d in
+    let rest : v.waiting ≡ s.waiting = ap (λ x. x.waiting) p ∙ l in (
       λ h. ap (number_of class.Trip) rest ∙ known_no_trip s f (ap (λ m. is_mode m Trip) (sym mode) ∙ h),
       λ h. ap (number_of class.Hold) rest ∙ known_no_hold s f (ap (waits class.Hold 0) (sym rest) ∙ h),
     )

@@ -23,7 +23,7 @@ use Rattle.driver_desk.specs.declared.refusal.Refusal.{Refusal}
 use Rattle.driver_desk.specs.declared.request.Class.TheVariants as class
 use Rattle.driver_desk.specs.declared.request.Request.{Request}
 use Rattle.cab_unit.proofs.Before.{before-order}
-use Rattle.cab_unit.proofs.Heard.{some-none}
+use Rattle.std.proofs.lemmas.Option.{none-some}
 use Rattle.cab_unit.proofs.Sorted.{first_least}
 
 -- an authority for the mode that the unit is in changes no request
@@ -104,7 +104,7 @@ moving-keeps-authority reads block s h a =
 
 -- the first is before all others
 first-before : (l : List Request) (r : Request) → Rising before l → first_of l ≡ Some r → AllByRecursion (λ x. before x r ≡ false) l
-first-before [] r h e = absurd (some-none r (sym e))
+first-before [] r h e = absurd (none-some r e)
 first-before (x ∷ xs) r h e =
     let same : x ≡ r = cc in
     subst (λ y. AllByRecursion (λ z. before z y ≡ false) (x ∷ xs)) same (first_least before-order x xs h)
@@ -113,7 +113,7 @@ first-before (x ∷ xs) r h e =
 press-ends : (o : Option Refusal) (s : State) (r : Request) → (answer_at o s (press_change 1 s)).acknowledged ≡ Some r → first_of s.waiting ≡ Some r
 unfolding press_change acknowledge_change
 press-ends None s r e = e
-press-ends (Some _) s r e = absurd (some-none r (sym e))
+press-ends (Some _) s r e = absurd (none-some r e)
 
 -- Acknowledge ends none behind the first
 pub acknowledges-first : (reads : List ℕ → Option ℕ) (s : State) (r : Request) → Facts s → (reply reads (press 1) s).acknowledged ≡ Some r →

@@ -1,11 +1,15 @@
 -- Which button is enabled.
-use Rattle.std.specs.Prelude.{ℕ, ◌+◌, Bool, false, cond, not, ◌&&◌, ◌||◌, is_some, Some, None, Option, ◌==◌, nat_le}
+use Rattle.std.specs.Prelude.{◌≡◌, ℕ, ◌+◌, Bool, true, false, cond, not, ◌&&◌, ◌||◌, is_some, Some, None, Option, Result, MatchResult, ◌==◌, nat_le}
 use Rattle.telegram.specs.declared.modes.Mode.{Mode}
 use Rattle.telegram.specs.declared.modes.Mode.TheVariants.{Standby, FullSupervision, OnSight, LimitedSupervision, Shunting, Trip, PostTrip, SystemFailure}
+use Rattle.cab_unit.specs.declared.button.Button.{Button}
+use Rattle.cab_unit.specs.declared.button.Button.TheVariants as button
 use Rattle.driver_desk.specs.Numbers.{is_mode, level_number}
 use Rattle.driver_desk.specs.Requests.{of_class, number_of, first_of}
 use Rattle.cab_unit.specs.State.{State, standing, crawling}
 use Rattle.driver_desk.specs.declared.request.Class.TheVariants as class
+use Rattle.driver_desk.specs.declared.refusal.Refusal.{Refusal}
+use Rattle.driver_desk.specs.declared.refusal.Refusal.TheVariants.{NoSuchButton}
 use Rattle.driver_desk.specs.declared.request.Request.{Request}
 
 -- Full Supervision, On Sight or Limited Supervision
@@ -33,6 +37,20 @@ abbrev pub is_button : ℕ → Bool
 is_button n = nat_le 1 n && nat_le n 9
 
 -- 1 Acknowledge, 2 Start, 3 Shunting, 4 Exit shunting, 5 Override, 6 to 8 Level 0 to 2, 9 Close desk
+abbrev pub button_number : Button → ℕ
+button_number button.Acknowledge = 1
+button_number button.Start = 2
+button_number button.Shunting = 3
+button_number button.ExitShunting = 4
+button_number button.Override = 5
+button_number (button.Level l) = 6 + level_number l
+button_number button.CloseDesk = 9
+
+-- the button with this number, or the refusal of a number that is no button's
+abbrev pub ButtonNumbered : ℕ → Result Button Refusal → Type 0
+ButtonNumbered n result =
+    MatchResult result (λ b. (button_number b ≡ n) × (is_button n ≡ true)) (λ e. (e ≡ NoSuchButton) × (is_button n ≡ false))
+
 unfoldable pub enabled : ℕ → State → Bool
 enabled n s =
     cond (n == 1) (acknowledgeable (standing s.speed) (first_of s.waiting))

@@ -18,7 +18,7 @@ counted s = on_desk (λ d. with_silence (cond (listening d && nat_lt d.silence 4
 
 -- at 401, with the train standing, authority ends
 unfoldable pub lapsed : State → State
-lapsed s = on_desk (λ d. with_authority (d.authority && not (d.silence == 401 && standing s.speed)) d) s
+lapsed s = on_desk (λ d. with_authority (cond (d.silence == 401 && standing s.speed) false d.authority) d) s
 
 -- moving in Standby or Post Trip raises a hold, unless one waits; moving in a supervised mode without authority trips
 unfoldable pub watched : State → Change

@@ -1,5 +1,5 @@
 ghost use Rattle.std.specs.Prelude.{◌≡◌, ◌+◌, ◌-◌, ◌<◌, ◌≤◌, false, if◌then◌else◌, Some, None};
-ghost use Rattle.cab_unit.specs.Buttons.{acknowledgeable, settable as is_settable, enabled, buttons_of};
+ghost use Rattle.cab_unit.specs.Buttons.{button_number, settable as is_settable, enabled, buttons_of};
 ghost use Rattle.cab_unit.specs.Line.{line_rule, settled};
 ghost use Rattle.cab_unit.specs.Moves.{entered, withdrawn_at, raised as raised_in, request as request_in};
 ghost use Rattle.cab_unit.specs.Places.{limit};
@@ -8,11 +8,12 @@ ghost use Rattle.cab_unit.specs.Steps.{answering};
 ghost use Rattle.cab_unit.specs.View.{view, done as done_with};
 ghost use Rattle.driver_desk.specs.declared.request.Class.TheVariants as class;
 
-use crate::desk::{Desk, is_mode, is_startable, is_supervised};
+use crate::button::Button;
+use crate::desk::{Desk, is_startable, is_supervised};
 use crate::speed::{is_crawling, is_standing};
 use crate::waiting::Waiting;
-use crate::which::{Which, is_of};
-use driver_desk::{Answer, Class, Refusal, Request, TrainRecord};
+use crate::which::Which;
+use driver_desk::{Answer, Class, Level, Refusal, Request, TrainRecord};
 use telegram::Mode;
 use train_end::{BrakeLine, TrainEnd};
 
@@ -26,7 +27,7 @@ pub struct Cab<E> {
 }
 
 // What an accepted call did, beside the state that it left.
-#[derive(Clone, Copy)]
+#[derive(Clone, Copy, Default)]
 pub struct Done {
     pub raised: Option<Request>,
     pub ended: Option<Request>,
@@ -38,9 +39,8 @@ impl Done {
         ensures { result ≡ done_with None None number }
     {
         Done {
-            raised: None,
-            ended: None,
             withdrawn: number,
+            ..Done::default()
         }
     }
 
@@ -50,19 +50,8 @@ impl Done {
     {
         Done {
             raised: Some(request),
-            ended: None,
-            withdrawn: number,
+            ..Done::withdrawing(number)
         }
-    }
-}
-
-// A trip and a hold are acknowledged only when standing.
-fn can_acknowledge(stands: bool, first: Option<Request>) -> bool
-    ensures { result ≡ acknowledgeable stands first }
-{
-    match first {
-        Some(r) => stands | !(is_of(&r, Class::Trip) | is_of(&r, Class::Hold)),
-        None => false,
     }
 }
 
@@ -80,48 +69,50 @@ impl<E: TrainEnd> Cab<E> {
     {
         let stands = is_standing(self.end.speed());
         let unasked = self.waiting.number_of(Class::Mode) == 0;
-        is_mode(self.desk.mode, Mode::Standby) & stands & unasked & !self.desk.pending
+        self.desk.mode == Mode::Standby && stands && unasked && !self.desk.pending
     }
 
-    // Whether a button is enabled: 1 Acknowledge, 2 Start, 3 Shunting, 4 Exit shunting, 5 Override, 6 to 8 Level 0 to 2, 9 Close desk.
-    pub fn enabled(&self, button: u8) -> bool
-        ensures { result ≡ enabled button (view E.speed_of E.line_of self.now) }
+    #[tactic(auto, unfolding(crate::specs::Buttons::enabled))]
+    pub fn enabled(&self, button: Button) -> bool
+        ensures { result ≡ enabled (button_number button) (view E.speed_of E.line_of self.now) }
     {
         let desk = self.desk;
         let stands = is_standing(self.end.speed());
         let unasked = self.waiting.number_of(Class::Mode) == 0;
         match button {
-            1 => can_acknowledge(stands, self.waiting.first()),
-            2 => is_startable(desk.mode) & stands & self.train.is_some() & unasked & !desk.pending,
-            3 => is_mode(desk.mode, Mode::Standby) & stands & (desk.level.number() <= 1) & unasked,
-            4 => is_mode(desk.mode, Mode::Shunting) & stands,
-            5 => is_supervised(desk.mode) & is_crawling(self.end.speed()),
-            6..=8 => self.settable(),
-            9 => stands
-                & !is_mode(desk.mode, Mode::Trip)
-                & !is_mode(desk.mode, Mode::SystemFailure),
-            _ => false,
+            // A trip and a hold are acknowledged only when standing.
+            Button::Acknowledge => self.waiting.first().is_some_and(|request| {
+                stands || !matches!(request.class, Class::Trip | Class::Hold)
+            }),
+            Button::Start => is_startable(desk.mode) && stands && self.train.is_some() && unasked && !desk.pending,
+            Button::Shunting => desk.mode == Mode::Standby && stands && desk.level != Level::Two && unasked,
+            Button::ExitShunting => desk.mode == Mode::Shunting && stands,
+            Button::Override => is_supervised(desk.mode) && is_crawling(self.end.speed()),
+            Button::Level(_) => self.settable(),
+            Button::CloseDesk => stands && !matches!(desk.mode, Mode::Trip | Mode::SystemFailure),
         }
     }
 
+    // Added one by one: as a `sum` over a table of the nine, the proof that it fits did not close.
+    #[tactic(auto, unfolding(crate::specs::Buttons::buttons_of))]
     fn buttons(&self) -> u16
         ensures { result ≡ buttons_of (view E.speed_of E.line_of self.now) }
     {
-        bit(self.enabled(1), 1)
-            + bit(self.enabled(2), 2)
-            + bit(self.enabled(3), 4)
-            + bit(self.enabled(4), 8)
-            + bit(self.enabled(5), 16)
-            + bit(self.enabled(6), 32)
-            + bit(self.enabled(7), 64)
-            + bit(self.enabled(8), 128)
-            + bit(self.enabled(9), 256)
+        bit(self.enabled(Button::Acknowledge), 1)
+            + bit(self.enabled(Button::Start), 2)
+            + bit(self.enabled(Button::Shunting), 4)
+            + bit(self.enabled(Button::ExitShunting), 8)
+            + bit(self.enabled(Button::Override), 16)
+            + bit(self.enabled(Button::Level(Level::Zero)), 32)
+            + bit(self.enabled(Button::Level(Level::One)), 64)
+            + bit(self.enabled(Button::Level(Level::Two)), 128)
+            + bit(self.enabled(Button::CloseDesk), 256)
     }
 
     fn line_rule(&self) -> BrakeLine
         ensures { result ≡ line_rule self.now.desk (any_overdue self.now.cycle (view E.speed_of E.line_of self.now).waiting) (waits class.Hold 0 (view E.speed_of E.line_of self.now).waiting) (view E.speed_of E.line_of self.now).speed }
     {
-        if is_mode(self.desk.mode, Mode::Trip) | is_mode(self.desk.mode, Mode::SystemFailure) {
+        if matches!(self.desk.mode, Mode::Trip | Mode::SystemFailure) {
             return BrakeLine::Emergency;
         }
         let late = self.waiting.any_overdue(self.cycle);
@@ -134,6 +125,7 @@ impl<E: TrainEnd> Cab<E> {
     }
 
     // The silence rule, then the line rule.
+    #[tactic(auto, unfolding(crate::specs::Line::settled))]
     pub fn settle(&mut self)
         ensures { view E.speed_of E.line_of self.new ≡ settled (view E.speed_of E.line_of self.old) }
     {
@@ -161,13 +153,29 @@ impl<E: TrainEnd> Cab<E> {
         }
     }
 
+    // A refusal touches nothing.
+    pub fn refuse(&self, refusal: Refusal) -> Answer
+        ensures { result ≡ answering (Some refusal) None None 0 (view E.speed_of E.line_of self.now) }
+    {
+        self.answer(Some(refusal), Done::default())
+    }
+
+    // What was done is settled, and then answered.
+    pub fn finish(&mut self, done: Done) -> Answer
+        ensures state { view E.speed_of E.line_of self.new ≡ settled (view E.speed_of E.line_of self.old) }
+        ensures answer { result ≡ answering None done.raised done.ended done.withdrawn (settled (view E.speed_of E.line_of self.old)) }
+    {
+        self.settle();
+        self.answer(None, done)
+    }
+
     // A change of mode withdraws what waits of class mode.
     pub fn enter(&mut self, mode: Mode) -> u8
         ensures state { view E.speed_of E.line_of self.new ≡ entered mode (view E.speed_of E.line_of self.old) }
         ensures number { result ≡ withdrawn_at mode (view E.speed_of E.line_of self.old) }
         ensures most { result ≤ 16 }
     {
-        let number = if is_mode(self.desk.mode, mode) {
+        let number = if self.desk.mode == mode {
             0
         } else {
             self.waiting.withdraw(Which::OfClass(Class::Mode))
@@ -192,7 +200,7 @@ impl<E: TrainEnd> Cab<E> {
         request
     }
 
-    // Raises the only request of its class.
+    // Raises the only request of its class. Its callers know that none of the class waits, and would each show `room` and `fresh` anew for `raise`.
     pub fn raise_alone(&mut self, class: Class, number: u8, timed: bool) -> Request
         requires { number_of class (view E.speed_of E.line_of self.old).waiting ≡ 0 }
         ensures state { view E.speed_of E.line_of self.new ≡ raised_in class number timed (view E.speed_of E.line_of self.old) }

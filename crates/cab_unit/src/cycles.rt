@@ -1,6 +1,6 @@
 ghost use Rattle.std.specs.Prelude.{◌≡◌, ◌+◌, ◌-◌, ◌<◌, false, length, None};
 ghost use Rattle.telegram.specs.declared.modes.Mode.TheVariants as modes;
-ghost use Rattle.cab_unit.specs.Cycles.{given, counted, lapsed, watched, cycle_change};
+ghost use Rattle.cab_unit.specs.Cycles.{counted, lapsed, watched, cycle_change};
 ghost use Rattle.cab_unit.specs.Facts.{Facts};
 ghost use Rattle.cab_unit.specs.Moves.{failing};
 ghost use Rattle.driver_desk.specs.Numbers.{is_mode};
@@ -15,6 +15,7 @@ use telegram::Mode;
 use train_end::TrainEnd;
 
 impl<E: TrainEnd> Cab<E> {
+    #[tactic(auto, unfolding(crate::specs::Cycles::counted))]
     fn count_silence(&mut self)
         ensures { view E.speed_of E.line_of self.new ≡ counted (view E.speed_of E.line_of self.old) }
     {
@@ -23,54 +24,33 @@ impl<E: TrainEnd> Cab<E> {
         }
     }
 
-    // After 401 silent cycles a standing train has no authority any more.
-    fn lapse(&mut self)
-        ensures { view E.speed_of E.line_of self.new ≡ lapsed (view E.speed_of E.line_of self.old) }
-    {
-        if self.desk.silence == 401 && is_standing(self.end.speed()) {
-            self.desk.authority = false;
-        }
-    }
-
-    // A moving train is held in Standby and Post Trip, and tripped in a supervised mode without authority.
+    // A standing train has no authority after 401 silent cycles. A moving one is held in Standby and Post Trip, and tripped in a supervised mode without authority.
+    #[tactic(auto, unfolding(crate::specs::Cycles::lapsed, crate::specs::Cycles::watched))]
     fn watch(&mut self) -> Done
         requires untripped { is_mode self.old.desk.mode modes.Trip ≡ false → number_of class.Trip (view E.speed_of E.line_of self.old).waiting ≡ 0 }
         requires unheld { waits class.Hold 0 (view E.speed_of E.line_of self.old).waiting ≡ false → number_of class.Hold (view E.speed_of E.line_of self.old).waiting ≡ 0 }
-        ensures state { view E.speed_of E.line_of self.new ≡ (watched (view E.speed_of E.line_of self.old)).state }
-        ensures done { result ≡ done_of (watched (view E.speed_of E.line_of self.old)) }
+        ensures state { view E.speed_of E.line_of self.new ≡ (watched (lapsed (view E.speed_of E.line_of self.old))).state }
+        ensures done { result ≡ done_of (watched (lapsed (view E.speed_of E.line_of self.old))) }
     {
+        let speed = self.end.speed();
         match self.desk.mode {
+            _ if self.desk.silence == 401 && is_standing(speed) => {
+                self.desk.authority = false;
+                Done::default()
+            }
             Mode::Standby | Mode::PostTrip
-                if is_moving(self.end.speed()) && !self.waiting.holds(Class::Hold, 0) => {
+                if is_moving(speed) && !self.waiting.holds(Class::Hold, 0) => {
                 let request = self.raise_alone(Class::Hold, 0, false);
                 Done::raising(request, 0)
             }
             Mode::FullSupervision | Mode::OnSight | Mode::LimitedSupervision
-                if is_moving(self.end.speed()) && !self.desk.authority => {
+                if is_moving(speed) && !self.desk.authority => {
                 let withdrawn = self.enter(Mode::Trip);
                 let request = self.raise_alone(Class::Trip, 0, false);
                 Done::raising(request, withdrawn)
             }
-            _ => Done {
-                raised: None,
-                ended: None,
-                withdrawn: 0,
-            },
+            _ => Done::default(),
         }
-    }
-
-    // A cycle before the last: the block's speed, silence, the end of authority, and what a moving train asks for.
-    fn advance(&mut self, block: &[u8]) -> Done
-        requires facts { ∥ Facts (view E.speed_of E.line_of self.old) ∥₁ }
-        requires clock { self.old.cycle < 4294967295 }
-        ensures state { view E.speed_of E.line_of self.new ≡ (watched (lapsed (counted (given (E.reading block.now) (view E.speed_of E.line_of self.old))))).state }
-        ensures done { result ≡ done_of (watched (lapsed (counted (given (E.reading block.now) (view E.speed_of E.line_of self.old))))) }
-    {
-        self.cycle += 1;
-        self.end.give_block(block);
-        self.count_silence();
-        self.lapse();
-        self.watch()
     }
 
     // System Failure: all requests are withdrawn, authority and any pending start end.
@@ -84,14 +64,18 @@ impl<E: TrainEnd> Cab<E> {
         Done::withdrawing(self.waiting.withdraw_all())
     }
 
-    // What an accepted cycle does.
+    // What an accepted cycle does: the block's speed, silence, and what the train asks for; at the last cycle number the unit fails.
+    #[tactic(auto, unfolding(crate::specs::Cycles::cycle_change))]
     pub fn cycle_change(&mut self, block: &[u8]) -> Done
         requires { ∥ Facts (view E.speed_of E.line_of self.old) ∥₁ }
         ensures state { view E.speed_of E.line_of self.new ≡ (cycle_change (E.reading block.now) (view E.speed_of E.line_of self.old)).state }
         ensures done { result ≡ done_of (cycle_change (E.reading block.now) (view E.speed_of E.line_of self.old)) }
     {
         if self.cycle < u32::MAX {
-            self.advance(block)
+            self.cycle += 1;
+            self.end.give_block(block);
+            self.count_silence();
+            self.watch()
         } else {
             self.fail()
         }

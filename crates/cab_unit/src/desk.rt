@@ -2,12 +2,12 @@ ghost use Rattle.std.specs.Prelude.{◌≡◌};
 ghost use Rattle.cab_unit.specs.Buttons.{supervised, startable};
 ghost use Rattle.cab_unit.specs.Heard.{hears_authority, hears_level, hears_stop, is_listed};
 ghost use Rattle.cab_unit.specs.Line.{listening};
-ghost use Rattle.driver_desk.specs.Numbers.{level_of, is_level, is_mode};
+ghost use Rattle.driver_desk.specs.Numbers.{level_of};
 
 use driver_desk::Level;
 use telegram::Mode;
 
-// The level with a number up to 2.
+// The level with a number up to 2. An accepted order's level is in the list, so there is no refusal to answer as `try_from` would.
 pub fn level_numbered(number: u8) -> Level
     ensures { result ≡ level_of number }
 {
@@ -18,20 +18,10 @@ pub fn level_numbered(number: u8) -> Level
     }
 }
 
-pub fn is_level(level: Level, other: Level) -> bool
-    ensures { result ≡ is_level level other }
-{
-    level.number() == other.number()
-}
-
-pub fn is_mode(mode: Mode, other: Mode) -> bool
-    ensures { result ≡ is_mode mode other }
-{
-    mode.code() == other.code()
-}
-
+// The supervised modes are those that an authority can be for.
 pub fn is_supervised(mode: Mode) -> bool
-    ensures { result ≡ supervised mode }
+    ensures supervised { result ≡ supervised mode }
+    ensures listed { result ≡ is_listed mode }
 {
     matches!(
         mode,
@@ -43,16 +33,6 @@ pub fn is_startable(mode: Mode) -> bool
     ensures { result ≡ startable mode }
 {
     matches!(mode, Mode::Standby | Mode::PostTrip)
-}
-
-// Whether an authority can be for this mode.
-pub fn is_listed(mode: Mode) -> bool
-    ensures { result ≡ is_listed mode }
-{
-    matches!(
-        mode,
-        Mode::FullSupervision | Mode::OnSight | Mode::LimitedSupervision
-    )
 }
 
 // What the unit holds beside requests, record and clock. Silence counts cycles without word from the line side, at level 2 in Full Supervision or On Sight with authority; elsewhere it is 0.
@@ -70,9 +50,9 @@ impl Desk {
     pub(crate) fn is_listening(&self) -> bool
         ensures { result ≡ listening self.now }
     {
-        is_level(self.level, Level::Two)
-            & (is_mode(self.mode, Mode::FullSupervision) | is_mode(self.mode, Mode::OnSight))
-            & self.authority
+        self.level == Level::Two
+            && matches!(self.mode, Mode::FullSupervision | Mode::OnSight)
+            && self.authority
     }
 
     pub(crate) fn hears_authority(&self) -> bool

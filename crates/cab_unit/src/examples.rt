@@ -16,10 +16,7 @@ pub fn confirm_one<E: TrainEnd>(end: E, draft: Draft) -> (Answer, E)
     let confirmed = draft.yes();
     let answer = match unit.take(confirmed) {
         Ok(answer) => answer,
-        Err(refused) => {
-            let (answer, _confirmed) = refused;
-            answer
-        }
+        Err((answer, _confirmed)) => answer,
     };
     (answer, unit.switch_off())
 }

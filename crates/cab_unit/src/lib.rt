@@ -1,9 +1,9 @@
 // The unit that decides: mode, level, requests to the driver, buttons and brake demand for one desk.
 #![tactic(auto)]
 
+mod button;
 mod cab;
 mod call;
-mod calls;
 mod cycles;
 mod desk;
 mod examples;

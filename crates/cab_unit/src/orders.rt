@@ -15,7 +15,7 @@ ghost use Rattle.driver_desk.specs.declared.refusal.Refusal.TheVariants.{Outside
 ghost use Rattle.driver_desk.specs.declared.request.Class.TheVariants as class;
 
 use crate::cab::{Cab, Done};
-use crate::desk::{is_level, is_listed, is_mode, level_numbered};
+use crate::desk::{is_supervised, level_numbered};
 use crate::which::Which;
 use driver_desk::{Class, Level, Refusal};
 use telegram::{Mode, Order};
@@ -66,8 +66,8 @@ impl<E: TrainEnd> Cab<E> {
     {
         match (self.desk.mode, order) {
             (Mode::SystemFailure, _) => Some(Refusal::InSystemFailure),
-            (_, Order::Authority(mode)) => hearing(is_listed(mode), self.desk.hears_authority()),
-            (_, Order::Level(level)) => hearing(level <= 2, self.desk.hears_level()),
+            (_, Order::Authority(mode)) => hearing(is_supervised(mode), self.desk.hears_authority()),
+            (_, Order::Level(level)) => hearing(Level::try_from(level).is_ok(), self.desk.hears_level()),
             (_, Order::Text { number, wanted, .. }) => self.text_refusal(number, wanted),
             (_, Order::TextWithdrawal(number)) => self.withdrawal_refusal(number),
             (_, Order::EmergencyStop) => hearing(true, self.desk.hears_stop()),
@@ -77,15 +77,16 @@ impl<E: TrainEnd> Cab<E> {
     }
 
     // Another mode is entered, and all but Full Supervision ask the driver.
+    #[tactic(auto, unfolding(crate::specs::Orders::authority_change))]
     fn go_on_in(&mut self, mode: Mode) -> Done
         ensures state { view E.speed_of E.line_of self.new ≡ (authority_change mode (view E.speed_of E.line_of self.old)).state }
         ensures done { result ≡ done_of (authority_change mode (view E.speed_of E.line_of self.old)) }
     {
-        if is_mode(self.desk.mode, mode) {
-            return Done::withdrawing(0);
+        if self.desk.mode == mode {
+            return Done::default();
         }
         let withdrawn = self.enter(mode);
-        if is_mode(mode, Mode::FullSupervision) {
+        if mode == Mode::FullSupervision {
             return Done::withdrawing(withdrawn);
         }
         let request = self.raise_alone(Class::Mode, mode.code(), true);
@@ -102,6 +103,7 @@ impl<E: TrainEnd> Cab<E> {
         self.go_on_in(mode)
     }
 
+    #[tactic(auto, unfolding(crate::specs::Orders::level_change))]
     fn change_level(&mut self, level: Level) -> Done
         requires fitted { is_level level levels.Zero ≡ true → is_mode self.old.desk.mode modes.Unfitted ≡ false }
         requires responsible { is_level self.old.desk.level levels.Zero ≡ true → is_mode self.old.desk.mode modes.StaffResponsible ≡ false }
@@ -111,14 +113,14 @@ impl<E: TrainEnd> Cab<E> {
         let old = self.desk.level;
         self.desk.level = level;
         let levels = self.waiting.withdraw(Which::OfClass(Class::Level));
-        if is_level(level, Level::Zero) {
+        if level == Level::Zero {
             let modes = self.enter(Mode::Unfitted);
             self.desk.authority = false;
-            let request = self.raise_alone(Class::Mode, 6, true);
+            let request = self.raise_alone(Class::Mode, Mode::Unfitted.code(), true);
             Done::raising(request, levels + modes)
-        } else if is_level(old, Level::Zero) {
+        } else if old == Level::Zero {
             let modes = self.enter(Mode::StaffResponsible);
-            let request = self.raise_alone(Class::Mode, 1, true);
+            let request = self.raise_alone(Class::Mode, Mode::StaffResponsible.code(), true);
             Done::raising(request, levels + modes)
         } else {
             let request = self.raise_alone(Class::Level, level.number(), true);
@@ -132,7 +134,7 @@ impl<E: TrainEnd> Cab<E> {
         ensures done { result ≡ done_of (text_change number wanted (view E.speed_of E.line_of self.old)) }
     {
         if !wanted {
-            return Done::withdrawing(0);
+            return Done::default();
         }
         let request = self.raise(Class::Text, number, true);
         Done::raising(request, 0)
@@ -163,7 +165,7 @@ impl<E: TrainEnd> Cab<E> {
         ensures done { result ≡ done_of (order_change orders.OrderValue.permission (view E.speed_of E.line_of self.old)) }
     {
         self.desk.pending = false;
-        let request = self.raise_alone(Class::Mode, 1, false);
+        let request = self.raise_alone(Class::Mode, Mode::StaffResponsible.code(), false);
         Done::raising(request, 0)
     }
 
@@ -175,8 +177,8 @@ impl<E: TrainEnd> Cab<E> {
         ensures done { result ≡ done_of (order_change (orders.OrderValue.level number) (view E.speed_of E.line_of self.old)) }
     {
         let level = level_numbered(number);
-        if is_level(level, self.desk.level) {
-            return Done::withdrawing(0);
+        if level == self.desk.level {
+            return Done::default();
         }
         self.change_level(level)
     }
@@ -196,7 +198,7 @@ impl<E: TrainEnd> Cab<E> {
             Order::EmergencyStop => self.stop(),
             Order::Sign => {
                 self.desk.silence = 0;
-                Done::withdrawing(0)
+                Done::default()
             }
             Order::Permission => self.permission(),
         }

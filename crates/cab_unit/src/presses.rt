@@ -1,5 +1,5 @@
-ghost use Rattle.std.specs.Prelude.{◌≡◌, ◌+◌, ◌-◌, ◌<◌, ◌≤◌, true, false, Some, None};
-ghost use Rattle.cab_unit.specs.Buttons.{enabled as is_enabled};
+ghost use Rattle.std.specs.Prelude.{◌≡◌, ◌+◌, ◌-◌, ◌<◌, ◌≤◌, true, false, Some, None, MatchResult};
+ghost use Rattle.cab_unit.specs.Buttons.{button_number, enabled as is_enabled};
 ghost use Rattle.cab_unit.specs.Events as events;
 ghost use Rattle.cab_unit.specs.Presses.{entered_by, acknowledge_change, start_change, close_change, press_change};
 ghost use Rattle.cab_unit.specs.Refusing.{refusal as refusal_of};
@@ -7,8 +7,8 @@ ghost use Rattle.driver_desk.specs.Requests.{number_of};
 ghost use Rattle.cab_unit.specs.View.{view, done_of};
 ghost use Rattle.driver_desk.specs.declared.request.Class.TheVariants as class;
 
+use crate::button::Button;
 use crate::cab::{Cab, Done};
-use crate::desk::{is_mode, level_numbered};
 use crate::which::Which;
 use driver_desk::{Class, Level, Refusal, Request};
 use telegram::Mode;
@@ -22,7 +22,7 @@ fn entered_by(ended: Option<Request>) -> Option<Mode>
     match request.class {
         Class::Trip => Some(Mode::PostTrip),
         Class::Mode if !request.timed => {
-            if request.number == 6 {
+            if request.number == Mode::Unfitted.code() {
                 Some(Mode::Unfitted)
             } else {
                 Some(Mode::StaffResponsible)
@@ -33,17 +33,22 @@ fn entered_by(ended: Option<Request>) -> Option<Mode>
 }
 
 impl<E: TrainEnd> Cab<E> {
-    pub fn press_refusal(&self, button: u8) -> Option<Refusal>
-        ensures { result ≡ refusal_of (events.Event.press button) (view E.speed_of E.line_of self.now) }
+    // The button pressed, or why the press is refused.
+    pub fn pressed(&self, number: u8) -> Result<Button, Refusal>
+        ensures { MatchResult result (λ b. (button_number b ≡ number) × (None ≡ refusal_of (events.Event.press number) (view E.speed_of E.line_of self.now))) (λ e. Some e ≡ refusal_of (events.Event.press number) (view E.speed_of E.line_of self.now)) }
     {
-        match (self.desk.mode, button) {
-            (Mode::SystemFailure, _) => Some(Refusal::InSystemFailure),
-            (_, 1..=9) if self.enabled(button) => None,
-            (_, 1..=9) => Some(Refusal::ButtonNotEnabled),
-            _ => Some(Refusal::NoSuchButton),
+        if self.desk.mode == Mode::SystemFailure {
+            return Err(Refusal::InSystemFailure);
+        }
+        let button = Button::try_from(number)?;
+        if self.enabled(button) {
+            Ok(button)
+        } else {
+            Err(Refusal::ButtonNotEnabled)
         }
     }
 
+    #[tactic(auto, unfolding(crate::specs::Presses::acknowledge_change))]
     fn acknowledge(&mut self) -> Done
         ensures state { view E.speed_of E.line_of self.new ≡ (acknowledge_change (view E.speed_of E.line_of self.old)).state }
         ensures done { result ≡ done_of (acknowledge_change (view E.speed_of E.line_of self.old)) }
@@ -54,12 +59,12 @@ impl<E: TrainEnd> Cab<E> {
             None => 0,
         };
         Done {
-            raised: None,
             ended,
-            withdrawn,
+            ..Done::withdrawing(withdrawn)
         }
     }
 
+    #[tactic(auto, unfolding(crate::specs::Presses::start_change))]
     fn start(&mut self) -> Done
         requires { number_of class.Mode (view E.speed_of E.line_of self.old).waiting ≡ 0 }
         ensures state { view E.speed_of E.line_of self.new ≡ (start_change (view E.speed_of E.line_of self.old)).state }
@@ -68,10 +73,10 @@ impl<E: TrainEnd> Cab<E> {
         let request = match self.desk.level {
             Level::Two => {
                 self.desk.pending = true;
-                return Done::withdrawing(0);
+                return Done::default();
             }
-            Level::One => self.raise_alone(Class::Mode, 1, false),
-            Level::Zero => self.raise_alone(Class::Mode, 6, false),
+            Level::One => self.raise_alone(Class::Mode, Mode::StaffResponsible.code(), false),
+            Level::Zero => self.raise_alone(Class::Mode, Mode::Unfitted.code(), false),
         };
         Done::raising(request, 0)
     }
@@ -91,26 +96,26 @@ impl<E: TrainEnd> Cab<E> {
     }
 
     // What an accepted press does.
-    pub fn press_change(&mut self, button: u8) -> Done
-        requires button { 1 ≤ button }
-        requires enabled { is_enabled button (view E.speed_of E.line_of self.old) ≡ true }
-        ensures state { view E.speed_of E.line_of self.new ≡ (press_change button (view E.speed_of E.line_of self.old)).state }
-        ensures done { result ≡ done_of (press_change button (view E.speed_of E.line_of self.old)) }
+    #[tactic(auto, unfolding(crate::specs::Presses::press_change))]
+    pub fn press_change(&mut self, button: Button) -> Done
+        requires { is_enabled (button_number button) (view E.speed_of E.line_of self.old) ≡ true }
+        ensures state { view E.speed_of E.line_of self.new ≡ (press_change (button_number button) (view E.speed_of E.line_of self.old)).state }
+        ensures done { result ≡ done_of (press_change (button_number button) (view E.speed_of E.line_of self.old)) }
     {
         match button {
-            1 => self.acknowledge(),
-            2 => self.start(),
-            3 => Done::withdrawing(self.enter(Mode::Shunting)),
-            4 => Done::withdrawing(self.enter(Mode::Standby)),
-            5 => {
+            Button::Acknowledge => self.acknowledge(),
+            Button::Start => self.start(),
+            Button::Shunting => Done::withdrawing(self.enter(Mode::Shunting)),
+            Button::ExitShunting => Done::withdrawing(self.enter(Mode::Standby)),
+            Button::Override => {
                 self.desk.authority = false;
                 Done::withdrawing(self.enter(Mode::StaffResponsible))
             }
-            6..=8 => {
-                self.desk.level = level_numbered(button - 6);
-                Done::withdrawing(0)
+            Button::Level(level) => {
+                self.desk.level = level;
+                Done::default()
             }
-            _ => self.close_desk(),
+            Button::CloseDesk => self.close_desk(),
         }
     }
 }

@@ -5,27 +5,18 @@ ghost use Rattle.cab_unit.specs.State.{standing, moving, crawling};
 pub fn is_standing(speed: Option<u16>) -> bool
     ensures { result ≡ standing speed }
 {
-    match speed {
-        Some(v) => v == 0,
-        None => false,
-    }
+    speed == Some(0)
 }
 
 pub fn is_moving(speed: Option<u16>) -> bool
     ensures { result ≡ moving speed }
 {
-    match speed {
-        Some(v) => v > 0,
-        None => false,
-    }
+    speed.is_some_and(|v| v > 0)
 }
 
 // At most 20 km/h.
 pub fn is_crawling(speed: Option<u16>) -> bool
     ensures { result ≡ crawling speed }
 {
-    match speed {
-        Some(v) => v <= 20,
-        None => false,
-    }
+    speed.is_some_and(|v| v <= 20)
 }

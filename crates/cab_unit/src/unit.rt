@@ -11,13 +11,15 @@ ghost use Rattle.cab_unit.specs.View.{view, bare};
 use crate::cab::{Cab, Done};
 use crate::desk::Desk;
 use crate::waiting::Waiting;
-use driver_desk::{Answer, Confirmed, Level};
+use driver_desk::{Answer, Confirmed, Level, Refusal};
 use telegram::{Mode, Order};
 use train_end::{BrakeLine, TrainEnd};
 
 // The unit of one desk. It owns its train end; switching off hands that back.
+// Clauses read `cab`: a refused call leaves each part of it as before, so a model would have to keep them all.
 pub struct Unit<E> {
     cab: Cab<E>,
+    // Between calls: the moves that a change is made of do not keep the facts one by one, so a cab does not carry them.
     ghost facts: { ∥ Facts (bare cab.desk (ordered cab.waiting.count cab.waiting.items)) ∥₁ },
 }
 
@@ -48,14 +50,16 @@ impl<E: TrainEnd> Unit<E> {
         ensures line { E.line_of result ≡ Emergency }
         ensures speed { E.speed_of result ≡ E.speed_of self.cab.end }
     {
-        let Unit { cab } = self;
-        let Cab {
-            desk: _,
-            train: _,
-            cycle: _,
-            waiting: _,
-            mut end,
-        } = cab;
+        let Unit {
+            cab:
+                Cab {
+                    desk: _,
+                    train: _,
+                    cycle: _,
+                    waiting: _,
+                    mut end,
+                },
+        } = self;
         end.set_line(BrakeLine::Emergency);
         end
     }
@@ -64,7 +68,7 @@ impl<E: TrainEnd> Unit<E> {
     pub fn answer(&self) -> Answer
         ensures { result ≡ answering None None None 0 (view E.speed_of E.line_of self.now.cab) }
     {
-        self.cab.answer(None, Done::withdrawing(0))
+        self.cab.answer(None, Done::default())
     }
 
     pub fn press(&mut self, button: u8) -> Answer
@@ -72,7 +76,13 @@ impl<E: TrainEnd> Unit<E> {
         ensures answer { result ≡ reply E.reading (events.Event.press button) (view E.speed_of E.line_of self.old.cab) }
         ensures refused { is_some (refusal_of (events.Event.press button) (view E.speed_of E.line_of self.old.cab)) ≡ true → self.new.cab ≡ self.old.cab }
     {
-        self.cab.press(button)
+        match self.cab.pressed(button) {
+            Err(refusal) => self.cab.refuse(refusal),
+            Ok(button) => {
+                let done = self.cab.press_change(button);
+                self.cab.finish(done)
+            }
+        }
     }
 
     pub fn order(&mut self, order: Order<'_>) -> Answer
@@ -80,7 +90,13 @@ impl<E: TrainEnd> Unit<E> {
         ensures answer { result ≡ reply E.reading (events.Event.order (value_of order.entry)) (view E.speed_of E.line_of self.old.cab) }
         ensures refused { is_some (refusal_of (events.Event.order (value_of order.entry)) (view E.speed_of E.line_of self.old.cab)) ≡ true → self.new.cab ≡ self.old.cab }
     {
-        self.cab.order(order)
+        match self.cab.order_refusal(order) {
+            Some(refusal) => self.cab.refuse(refusal),
+            None => {
+                let done = self.cab.order_change(order);
+                self.cab.finish(done)
+            }
+        }
     }
 
     pub fn cycle(&mut self, block: &[u8]) -> Answer
@@ -88,20 +104,27 @@ impl<E: TrainEnd> Unit<E> {
         ensures answer { result ≡ reply E.reading (events.Event.cycle block.now) (view E.speed_of E.line_of self.old.cab) }
         ensures refused { is_some (refusal_of (events.Event.cycle block.now) (view E.speed_of E.line_of self.old.cab)) ≡ true → self.new.cab ≡ self.old.cab }
     {
-        self.cab.cycle(block)
+        if self.cab.desk.mode == Mode::SystemFailure {
+            return self.cab.refuse(Refusal::InSystemFailure);
+        }
+        let done = self.cab.cycle_change(block);
+        self.cab.finish(done)
     }
 
-    // Uses the record up where it is taken, and hands it back where it is not.
+    // Uses the record up where it is taken, in place of any held before, and hands it back where it is not.
     pub fn take(&mut self, confirmed: Confirmed) -> Result<Answer, (Answer, Confirmed)>
         ensures state { view E.speed_of E.line_of self.new.cab ≡ next E.reading (events.Event.take confirmed.train) (view E.speed_of E.line_of self.old.cab) }
         ensures answer { MatchResult result (λ a. (a ≡ reply E.reading (events.Event.take confirmed.train) (view E.speed_of E.line_of self.old.cab)) × (refusal_of (events.Event.take confirmed.train) (view E.speed_of E.line_of self.old.cab) ≡ None)) (λ b. (b.0 ≡ reply E.reading (events.Event.take confirmed.train) (view E.speed_of E.line_of self.old.cab)) × (is_some (refusal_of (events.Event.take confirmed.train) (view E.speed_of E.line_of self.old.cab)) ≡ true) × (b.1 ≡ confirmed)) }
         ensures refused { is_some (refusal_of (events.Event.take confirmed.train) (view E.speed_of E.line_of self.old.cab)) ≡ true → self.new.cab ≡ self.old.cab }
     {
-        let answer = self.cab.take(*confirmed.numbers());
-        match answer.outcome {
-            None => Ok(answer),
-            Some(_) => Err((answer, confirmed)),
+        if self.cab.desk.mode == Mode::SystemFailure {
+            return Err((self.cab.refuse(Refusal::InSystemFailure), confirmed));
         }
+        if !self.cab.settable() {
+            return Err((self.cab.refuse(Refusal::RecordNotTaken), confirmed));
+        }
+        self.cab.train = Some(*confirmed.numbers());
+        Ok(self.cab.finish(Done::default()))
     }
 }
 

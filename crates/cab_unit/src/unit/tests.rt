@@ -98,10 +98,7 @@ fn takes_when_standing(rt: HostRuntime) -> Result<(), Fail> {
     let mut unit = Unit::switch_on(BusEnd::new());
     let (refused, numbers) = match unit.take(draft.yes()) {
         Ok(answer) => (outcome(&answer), 0),
-        Err(back) => {
-            let (answer, confirmed) = back;
-            (outcome(&answer), confirmed.numbers().driver)
-        }
+        Err((answer, confirmed)) => (outcome(&answer), confirmed.numbers().driver),
     };
     let _end = unit.switch_off();
     assert_eq!(rt; (refused, numbers), (14, 12345678));

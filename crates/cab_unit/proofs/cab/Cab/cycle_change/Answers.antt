@@ -1,11 +1,10 @@
-use Rattle.std.proofs.Common.{rules}
-use Rattle.cab_unit.specs.Cycles.{cycle_change}
+use Rattle.std.proofs.Common.{refl}
+use Rattle.cab_unit.specs.View.{view}
+use Rattle.cab_unit.proofs.Known.{watch_room}
 use Rattle.cab_unit.proofs.cab.Cab.cycle_change.Goals as goal
 
-pub returns-then-self-lt4294967295 : goal.returns-then-self-lt4294967295
-unfolding cycle_change
-returns-then-self-lt4294967295 g c = search rules
-
-pub returns-else-self-lt4294967295 : goal.returns-else-self-lt4294967295
-unfolding cycle_change
-returns-else-self-lt4294967295 g c = search rules
+pub watch-requires : goal.watch-requires
+watch-requires g c =
+    let see = view g.E.TrainEnd.speed_of g.E.TrainEnd.line_of in
+    let room = watch_room (see c.args.self.now) _ (see c.count_silence.new.self) c.requires refl refl c.count_silence.ensures in
+    record { untripped = room.0; unheld = room.1 }

@@ -1,10 +1,13 @@
 use Rattle.telegram.specs.Format.{value_of}
-use Rattle.cab_unit.specs.Events.{Event.order}
+use Rattle.cab_unit.specs.Events.{Event, Event.order}
 use Rattle.cab_unit.specs.View.{view}
-use Rattle.cab_unit.proofs.Stepping.{facts_after}
+use Rattle.cab_unit.proofs.Stepping.{accepted-state, facts_after}
 use Rattle.cab_unit.proofs.unit.Unit.order.Goals as goal
 
 pub invariant_of-self : goal.invariant_of-self
 invariant_of-self g c =
+    let reads = g.E.TrainEnd.reading in
+    let e : Event = order (value_of c.args.order) in
     let see = view g.E.TrainEnd.speed_of g.E.TrainEnd.line_of in
-    record { facts = facts_after g.E.TrainEnd.reading (order (value_of c.args.order)) (see c.args.self.now.cab) (see c.order.new.self) c.args.self.now.facts c.order.ensures.state }
+    let s = see c.args.self.now.cab in
+    record { facts = facts_after reads e s (see c.finish.new.self) c.args.self.now.facts (accepted-state reads e s _ _ c.in-None.ensures c.order_change-done.ensures.state c.finish.ensures.state) }
