@@ -37,14 +37,10 @@ impl<E: TrainEnd> Cab<E> {
     pub fn pressed(&self, number: u8) -> Result<Button, Refusal>
         ensures { MatchResult result (λ b. (button_number b ≡ number) × (None ≡ refusal_of (events.Event.press number) (view E.speed_of E.line_of self.now))) (λ e. Some e ≡ refusal_of (events.Event.press number) (view E.speed_of E.line_of self.now)) }
     {
-        if self.desk.mode == Mode::SystemFailure {
-            return Err(Refusal::InSystemFailure);
-        }
-        let button = Button::try_from(number)?;
-        if self.enabled(button) {
-            Ok(button)
-        } else {
-            Err(Refusal::ButtonNotEnabled)
+        match (self.desk.mode, Button::try_from(number)) {
+            (Mode::SystemFailure, _) => Err(Refusal::InSystemFailure),
+            (_, Ok(button)) if !self.enabled(button) => Err(Refusal::ButtonNotEnabled),
+            (_, button) => button,
         }
     }
 
