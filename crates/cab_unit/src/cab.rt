@@ -11,7 +11,6 @@ ghost use Rattle.driver_desk.specs.declared.request.Class.TheVariants as class;
 use crate::desk::{Desk, is_mode, is_startable, is_supervised};
 use crate::speed::{is_crawling, is_standing};
 use crate::waiting::Waiting;
-use crate::which::{Which, is_of};
 use driver_desk::{Answer, Class, Refusal, Request, TrainRecord};
 use telegram::Mode;
 use train_end::{BrakeLine, TrainEnd};
@@ -61,7 +60,7 @@ fn can_acknowledge(stands: bool, first: Option<Request>) -> bool
     ensures { result ≡ acknowledgeable stands first }
 {
     match first {
-        Some(r) => stands | !(is_of(&r, Class::Trip) | is_of(&r, Class::Hold)),
+        Some(r) => stands | !((r.class == Class::Trip) | (r.class == Class::Hold)),
         None => false,
     }
 }
@@ -170,7 +169,7 @@ impl<E: TrainEnd> Cab<E> {
         let number = if is_mode(self.desk.mode, mode) {
             0
         } else {
-            self.waiting.withdraw(Which::OfClass(Class::Mode))
+            self.waiting.withdraw_class(Class::Mode)
         };
         self.desk.mode = mode;
         number

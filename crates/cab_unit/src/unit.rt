@@ -18,7 +18,7 @@ use train_end::{BrakeLine, TrainEnd};
 // The unit of one desk. It owns its train end; switching off hands that back.
 pub struct Unit<E> {
     cab: Cab<E>,
-    ghost facts: { ∥ Facts (bare cab.desk (ordered cab.waiting.count cab.waiting.items)) ∥₁ },
+    ghost facts: { ∥ Facts (bare cab.desk (ordered cab.waiting.items)) ∥₁ },
 }
 
 impl<E: TrainEnd> Unit<E> {

@@ -26,4 +26,4 @@ raise_alone-request-requires-then-is_level-2 g c =
     entered-unasked StaffResponsible _ _ c.enter-modes-then-is_level-2.ensures.state (c.requires.responsible (sym c.if-is_level-2.ensures))
 
 pub raise_alone-request-requires-else-is_level-2 : goal.raise_alone-request-requires-else-is_level-2
-raise_alone-request-requires-else-is_level-2 g c = withdrawn-none class.Level (ordered c.args.self.now.waiting.count c.args.self.now.waiting.items) _ c.withdraw-levels.ensures.rest
+raise_alone-request-requires-else-is_level-2 g c = withdrawn-none class.Level (ordered c.args.self.now.waiting.items) _ c.withdraw_class-levels.ensures.rest
