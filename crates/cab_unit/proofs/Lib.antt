@@ -5,7 +5,6 @@ pub mod Heard
 pub mod Facts
 pub mod Places
 pub mod Turns
-pub mod Scans
 pub mod Room
 pub mod Alone
 pub mod Known

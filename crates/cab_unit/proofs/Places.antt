@@ -1,6 +1,6 @@
 -- Places in no order, and the list in order that they mean.
-use Rattle.std.proofs.Common.{◌≡◌, ℕ, zero, suc, ◌+◌, ◌<◌, Bool, true, false, ◌||◌, List, [], ◌∷◌, ◌++◌, length, get_or, take, set, filter, sym, refl, ap, ◌∙◌, subst, ap₂, inl, inr, arith}
-use Rattle.std.specs.List.{AllByRecursion}
+use Rattle.std.proofs.Common.{◌≡◌, ℕ, zero, suc, ◌+◌, ◌-◌, ◌<◌, Bool, true, false, ◌||◌, List, [], ◌∷◌, ◌++◌, length, get_or, take, take_all, set, filter, sym, refl, ap, ◌∙◌, subst, ap₂, inl, inr, arith}
+use Rattle.std.specs.List.{AllByRecursion, swap_remove, list_any}
 use Rattle.std.proofs.lemmas.List.{take_more, take-set, get_or-take, length-take}
 use Rattle.std.proofs.ByRecursion.{All-get_or}
 use Rattle.std.proofs.lemmas.Bool.{cases_Bool, cases_lt}
@@ -62,6 +62,20 @@ module _ {X : Type 0} (lt : X → X → Bool) where
   tally-sorted p [] = refl
   tally-sorted p (x ∷ xs) = omega (arith, tally-put lt p x (sorted lt xs), tally-sorted p xs)
 
+  -- in std's words
+  pub any_sorted : (p : X → Bool) (l : List X) → some p (sorted lt l) ≡ list_any p l
+  any_sorted p [] = refl
+  any_sorted p (x ∷ xs) = some-put lt p x (sorted lt xs) ∙ ap (λ t. p x || t) (any_sorted p xs)
+
+  pub filtered-sorted : (p : X → Bool) (l : List X) → tally p (sorted lt l) ≡ length (filter p l)
+  filtered-sorted p [] = refl
+  filtered-sorted p (x ∷ xs) =
+      let put' = tally-put lt p x (sorted lt xs) in
+      elim (cases_Bool (p x)) [
+        | inl e ↦ let k : tally p (sorted lt (x ∷ xs)) ≡ 1 + tally p (sorted lt xs) = simp e at put' in simp e (omega (arith, k, filtered-sorted p xs))
+        | inr e ↦ let k : tally p (sorted lt (x ∷ xs)) ≡ 0 + tally p (sorted lt xs) = simp e at put' in simp e (omega (arith, k, filtered-sorted p xs))
+      ]
+
 module _ {X : Type 0} {lt : X → X → Bool} (o : Order lt) where
   pub rising_sorted : (l : List X) → Rising lt (sorted lt l)
   rising_sorted [] = tt
@@ -90,14 +104,14 @@ module _ {X : Type 0} {lt : X → X → Bool} (o : Order lt) where
       sym (put_comm o x (get_or xs i d) (All-get_or (Told lt x) xs i d in' a.0) (sorted lt (set xs i z)))
       ∙ ap (put lt x) (sorted-set xs i z d in' a.1 k.1) ∙ put_comm o x z k.0 (sorted lt xs)
 
-  -- the last written over the one at i, and the count less by one
-  pub taken_out : (xs : List X) (m i : ℕ) (d : X) → i < m + 1 → m < length xs → AllTold lt (take (m + 1) xs) →
-      sorted lt (take (m + 1) xs) ≡ put lt (get_or xs i d) (sorted lt (take m (set xs i (get_or xs m d))))
-  taken_out xs m i d h k a =
+  -- the one at i put back among the others
+  taken_out : (xs : List X) (i : ℕ) (d : X) → i < length xs → AllTold lt xs → sorted lt xs ≡ put lt (get_or xs i d) (sorted lt (swap_remove xs i d))
+  taken_out xs i d h a =
+      let m = length xs - 1 in
       let z = get_or xs m d in
-      let more = take_more xs m d k in
+      let more : xs ≡ take m xs ++ z ∷ [] = sym (take_all (m + 1) xs (omega arith)) ∙ take_more xs m d (omega arith) in
       let told = told_last lt (take m xs) z (subst (AllTold lt) more a) in
-      let pushed : sorted lt (take (m + 1) xs) ≡ put lt z (sorted lt (take m xs)) = ap (sorted lt) more ∙ sorted_push (take m xs) z told.1 in
+      let pushed : sorted lt xs ≡ put lt z (sorted lt (take m xs)) = ap (sorted lt) more ∙ sorted_push (take m xs) z told.1 in
       elim (cases_lt i m) [
         | inl l ↦
             let short : i < length (take m xs) = simp length-take (omega arith) in
@@ -105,15 +119,15 @@ module _ {X : Type 0} {lt : X → X → Bool} (o : Order lt) where
             pushed ∙ sym s ∙ ap₂ (λ a b. put lt a (sorted lt b)) (get_or-take m xs i d l) (sym (take_set_over xs m i z))
         | inr l ↦
             let e : i ≡ m = omega arith in
-            rw e (rw (take-set xs m z) pushed)
+            pushed ∙ ap₂ (λ a b. put lt (get_or xs a d) (sorted lt b)) (sym e) (sym (take-set xs m z) ∙ ap (λ k. take m (set xs k z)) (sym e))
       ]
 
   -- the one at i, which none is before, and the rest
-  pub first_out : (xs : List X) (m i : ℕ) (d : X) → i < m + 1 → m < length xs → AllTold lt (take (m + 1) xs) → AllByRecursion (λ y. lt y (get_or xs i d) ≡ false) (take (m + 1) xs) →
-      sorted lt (take (m + 1) xs) ≡ get_or xs i d ∷ sorted lt (take m (set xs i (get_or xs m d)))
-  first_out xs m i d h k a first =
+  pub first_out : (xs : List X) (i : ℕ) (d : X) → i < length xs → AllTold lt xs → AllByRecursion (λ y. lt y (get_or xs i d) ≡ false) xs →
+      sorted lt xs ≡ get_or xs i d ∷ sorted lt (swap_remove xs i d)
+  first_out xs i d h a first =
       let x = get_or xs i d in
-      let rest = sorted lt (take m (set xs i (get_or xs m d))) in
-      let out = taken_out xs m i d h k a in
-      let all : AllByRecursion (λ y. lt y x ≡ false) (put lt x rest) = subst (AllByRecursion (λ y. lt y x ≡ false)) out (all_sorted lt (λ y. lt y x ≡ false) (take (m + 1) xs) first) in
+      let rest = sorted lt (swap_remove xs i d) in
+      let out = taken_out xs i d h a in
+      let all : AllByRecursion (λ y. lt y x ≡ false) (put lt x rest) = subst (AllByRecursion (λ y. lt y x ≡ false)) out (all_sorted lt (λ y. lt y x ≡ false) xs first) in
       out ∙ put_front lt x rest (all_unput lt (λ y. lt y x ≡ false) x rest all)

@@ -16,7 +16,7 @@ view speed_of line_of u = record {
   desk = u.desk;
   train = u.train;
   cycle = u.cycle;
-  waiting = ordered u.waiting.count u.waiting.items;
+  waiting = ordered u.waiting.items;
   speed = speed_of u.end;
   line = line_of u.end;
 }

@@ -12,7 +12,6 @@ use crate::button::Button;
 use crate::desk::{Desk, is_startable, is_supervised};
 use crate::speed::{is_crawling, is_standing};
 use crate::waiting::Waiting;
-use crate::which::Which;
 use driver_desk::{Answer, Class, Level, Refusal, Request, TrainRecord};
 use telegram::Mode;
 use train_end::{BrakeLine, TrainEnd};
@@ -178,7 +177,7 @@ impl<E: TrainEnd> Cab<E> {
         let number = if self.desk.mode == mode {
             0
         } else {
-            self.waiting.withdraw(Which::OfClass(Class::Mode))
+            self.waiting.withdraw_class(Class::Mode)
         };
         self.desk.mode = mode;
         number

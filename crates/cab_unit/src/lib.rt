@@ -12,7 +12,6 @@ mod presses;
 mod speed;
 mod unit;
 mod waiting;
-mod which;
 
 pub use call::Call;
 pub use desk::Desk;

@@ -16,7 +16,6 @@ ghost use Rattle.driver_desk.specs.declared.request.Class.TheVariants as class;
 
 use crate::cab::{Cab, Done};
 use crate::desk::{is_supervised, level_numbered};
-use crate::which::Which;
 use driver_desk::{Class, Level, Refusal};
 use telegram::{Mode, Order};
 use train_end::TrainEnd;
@@ -112,7 +111,7 @@ impl<E: TrainEnd> Cab<E> {
     {
         let old = self.desk.level;
         self.desk.level = level;
-        let levels = self.waiting.withdraw(Which::OfClass(Class::Level));
+        let levels = self.waiting.withdraw_class(Class::Level);
         if level == Level::Zero {
             let modes = self.enter(Mode::Unfitted);
             self.desk.authority = false;
@@ -145,7 +144,7 @@ impl<E: TrainEnd> Cab<E> {
         ensures state { view E.speed_of E.line_of self.new ≡ (order_change (orders.OrderValue.withdrawal number) (view E.speed_of E.line_of self.old)).state }
         ensures done { result ≡ done_of (order_change (orders.OrderValue.withdrawal number) (view E.speed_of E.line_of self.old)) }
     {
-        Done::withdrawing(self.waiting.withdraw(Which::For(Class::Text, number)))
+        Done::withdrawing(self.waiting.withdraw_text(number))
     }
 
     fn stop(&mut self) -> Done

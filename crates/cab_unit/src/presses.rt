@@ -9,7 +9,6 @@ ghost use Rattle.driver_desk.specs.declared.request.Class.TheVariants as class;
 
 use crate::button::Button;
 use crate::cab::{Cab, Done};
-use crate::which::Which;
 use driver_desk::{Class, Level, Refusal, Request};
 use telegram::Mode;
 use train_end::TrainEnd;
@@ -85,9 +84,9 @@ impl<E: TrainEnd> Cab<E> {
         self.desk.authority = false;
         self.desk.pending = false;
         self.train = None;
-        let modes = self.waiting.withdraw(Which::OfClass(Class::Mode));
-        let levels = self.waiting.withdraw(Which::OfClass(Class::Level));
-        let texts = self.waiting.withdraw(Which::OfClass(Class::Text));
+        let modes = self.waiting.withdraw_class(Class::Mode);
+        let levels = self.waiting.withdraw_class(Class::Level);
+        let texts = self.waiting.withdraw_class(Class::Text);
         Done::withdrawing(modes + levels + texts)
     }
 

@@ -20,7 +20,7 @@ use train_end::{BrakeLine, TrainEnd};
 pub struct Unit<E> {
     cab: Cab<E>,
     // Between calls: the moves that a change is made of do not keep the facts one by one, so a cab does not carry them.
-    ghost facts: { ∥ Facts (bare cab.desk (ordered cab.waiting.count cab.waiting.items)) ∥₁ },
+    ghost facts: { ∥ Facts (bare cab.desk (ordered cab.waiting.items)) ∥₁ },
 }
 
 impl<E: TrainEnd> Unit<E> {

@@ -8,12 +8,13 @@ use ordering::order::Ordered;
 use std::fmt;
 
 // What a request asks the driver to acknowledge.
-#[derive(Clone, Copy, PartialEq, Eq, PartialOrd, Ord, Debug)]
+#[derive(Clone, Copy, Default, PartialEq, Eq, PartialOrd, Ord, Debug)]
 pub enum Class {
     Trip = 0,
     Mode = 1,
     Level = 2,
     Hold = 3,
+    #[default]
     Text = 4,
 }
 
@@ -26,7 +27,8 @@ impl Class {
 }
 
 // A request to the driver, with the cycle in which it was raised. A timed one brakes when it is overdue.
-#[derive(Clone, Copy, PartialEq, Eq, Debug)]
+// The default stands at the free places of a run of fixed length.
+#[derive(Clone, Copy, Default, PartialEq, Eq, Debug)]
 pub struct Request {
     pub class: Class,
     pub number: u8,

@@ -14,4 +14,4 @@ raise_alone-request-requires-then-eq-2 g c =
     entered-unasked StaffResponsible _ _ c.enter-modes-then-eq-2.ensures.state (c.requires.responsible (search rules))
 
 pub raise_alone-request-requires-else-eq-2 : goal.raise_alone-request-requires-else-eq-2
-raise_alone-request-requires-else-eq-2 g c = withdrawn-none class.Level (ordered c.args.self.now.waiting.count c.args.self.now.waiting.items) _ c.withdraw-levels.ensures.rest
+raise_alone-request-requires-else-eq-2 g c = withdrawn-none class.Level (ordered c.args.self.now.waiting.items) _ c.withdraw_class-levels.ensures.rest

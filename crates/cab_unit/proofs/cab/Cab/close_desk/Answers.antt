@@ -10,11 +10,11 @@ use Rattle.cab_unit.proofs.cab.Cab.close_desk.Goals as goal
 pub returns : goal.returns
 unfolding close_change
 returns g c =
-    let l = ordered c.args.self.now.waiting.count c.args.self.now.waiting.items in
-    let first = c.withdraw-modes.ensures.rest in
-    let second = c.withdraw-levels.ensures.rest ∙ ap (filter (not_of_class class.Level)) first in
-    let levels : c.withdraw-levels.result ≡ number_of class.Level l =
-    c.withdraw-levels.ensures.number ∙ ap (number_of class.Level) first ∙ number_other class.Level class.Mode refl l in
-    let texts : c.withdraw-texts.result ≡ number_of class.Text l =
-    c.withdraw-texts.ensures.number ∙ ap (number_of class.Text) second ∙ number_other class.Text class.Level refl _ ∙ number_other class.Text class.Mode refl l in
-    record { state = search rules; done = c.withdrawing.ensures ∙ ap (done None None) (omega (arith, c.withdraw-modes.ensures.number)) }
+    let l = ordered c.args.self.now.waiting.items in
+    let first = c.withdraw_class-modes.ensures.rest in
+    let second = c.withdraw_class-levels.ensures.rest ∙ ap (filter (not_of_class class.Level)) first in
+    let levels : c.withdraw_class-levels.result ≡ number_of class.Level l =
+    c.withdraw_class-levels.ensures.number ∙ ap (number_of class.Level) first ∙ number_other class.Level class.Mode refl l in
+    let texts : c.withdraw_class-texts.result ≡ number_of class.Text l =
+    c.withdraw_class-texts.ensures.number ∙ ap (number_of class.Text) second ∙ number_other class.Text class.Level refl _ ∙ number_other class.Text class.Mode refl l in
+    record { state = search rules; done = c.withdrawing.ensures ∙ ap (done None None) (omega (arith, c.withdraw_class-modes.ensures.number)) }

@@ -9,5 +9,5 @@ returns g c =
     let w = c.args.self.now.waiting in
     record {
       state = search rules;
-      done = c.withdrawing.ensures ∙ ap (done None None) (c.withdraw.ensures.number ∙ one-waits class.Text c.args.number _ w.single c.requires);
+      done = c.withdrawing.ensures ∙ ap (done None None) (c.withdraw_text.ensures.number ∙ one-waits class.Text c.args.number _ w.single c.requires);
     }

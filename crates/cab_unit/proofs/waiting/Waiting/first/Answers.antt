@@ -1,9 +1,10 @@
-use Rattle.std.proofs.Common.{sym, ap, arith}
-use Rattle.driver_desk.specs.Requests.{first_of}
-use Rattle.cab_unit.proofs.Room.{first_chosen}
+use Rattle.std.proofs.Common.{subst, rules}
+use Rattle.ordering.specs.Order.{NoneBefore}
+use Rattle.driver_desk.specs.Requests.{before}
+use Rattle.cab_unit.proofs.Room.{first_read}
 use Rattle.cab_unit.proofs.waiting.Waiting.first.Goals as goal
 
-pub returns-in-Some : goal.returns-in-Some
-returns-in-Some c =
+pub returns : goal.returns
+returns c =
     let w = c.args.self.now in
-    sym (ap first_of (first_chosen w.count c.in-Some.i w.items _ (omega arith) w.single c.in-Some.ensures.none_before))
+    first_read w.items.items c.first_of.result _ _ w.single (subst (λ l. NoneBefore before l c.first_of.result) c.deref.ensures.0 c.first_of.ensures.none_before) c.map.ensures.cases (λ i x h k. search rules)
