@@ -1,29 +1,18 @@
--- A call that is done and settled, and a unit just switched on: the facts hold.
-use Rattle.std.proofs.Common.{◌≡◌, ℕ, true, false, List, [], is_some, Some, None, Option, sym, refl, ap, ◌∙◌, subst, ap₂}
+-- The facts hold after a call, and of a unit just switched on.
+use Rattle.std.proofs.Common.{◌≡◌, ℕ, false, List, [], None, Option, sym, ap, ◌∙◌, subst}
 use mathlib.Core.Logic.{∥∥₁_map}
-use Rattle.std.proofs.lemmas.Bool.{true≢false}
 use Rattle.train_end.specs.declared.brake_line.BrakeLine.{BrakeLine}
 use Rattle.telegram.specs.declared.modes.Mode.TheVariants.{Standby}
 use Rattle.cab_unit.specs.Events.{Event}
 use Rattle.cab_unit.specs.Facts.{Facts}
 use Rattle.cab_unit.specs.Line.{settled}
-use Rattle.cab_unit.specs.Refusing.{refusal}
 use Rattle.cab_unit.specs.State.{State}
-use Rattle.cab_unit.specs.Moves.{Change}
-use Rattle.cab_unit.specs.Steps.{changed, answering, state_at, answer_at, next, reply, switched_on}
-use Rattle.cab_unit.specs.View.{done_of}
-use Rattle.driver_desk.specs.declared.answer.Answer.{Answer}
-use Rattle.cab_unit.specs.declared.cab.Done.{Done}
+use Rattle.cab_unit.specs.Steps.{next, switched_on}
 use Rattle.driver_desk.specs.declared.level.Level.TheVariants.{Zero}
-use Rattle.driver_desk.specs.declared.refusal.Refusal.{Refusal}
 use Rattle.driver_desk.specs.declared.request.Request.{Request}
 use Rattle.cab_unit.proofs.Facts.{facts_on, facts_step}
 
 module _ (reads : List ℕ → Option ℕ) (e : Event) (s : State) where
-  -- an accepted call does the change and settles
-  pub accepted-state : (u t : State) → None ≡ refusal e s → u ≡ (changed reads e s).state → t ≡ settled u → t ≡ next reads e s
-  accepted-state u t h p q = q ∙ ap settled p ∙ ap (λ o. state_at o s (changed reads e s)) h
-
   -- the facts of a state hold after a call
   pub facts_after : (t : State) → ∥ Facts s ∥₁ → t ≡ next reads e s → ∥ Facts t ∥₁
   facts_after t f h = ∥∥₁_map f (λ k. subst Facts (sym h) (facts_step reads e s k))

@@ -83,8 +83,15 @@ impl<E: TrainEnd> Cab<E> {
             Button::Acknowledge => self.waiting.first().is_some_and(|request| {
                 stands || !matches!(request.class, Class::Trip | Class::Hold)
             }),
-            Button::Start => is_startable(desk.mode) && stands && self.train.is_some() && unasked && !desk.pending,
-            Button::Shunting => desk.mode == Mode::Standby && stands && desk.level != Level::Two && unasked,
+            Button::Start => is_startable(desk.mode)
+                && stands
+                && self.train.is_some()
+                && unasked
+                && !desk.pending,
+            Button::Shunting => desk.mode == Mode::Standby
+                && stands
+                && desk.level != Level::Two
+                && unasked,
             Button::ExitShunting => desk.mode == Mode::Shunting && stands,
             Button::Override => is_supervised(desk.mode) && is_crawling(self.end.speed()),
             Button::Level(_) => self.settable(),

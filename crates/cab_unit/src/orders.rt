@@ -65,8 +65,14 @@ impl<E: TrainEnd> Cab<E> {
     {
         match (self.desk.mode, order) {
             (Mode::SystemFailure, _) => Some(Refusal::InSystemFailure),
-            (_, Order::Authority(mode)) => hearing(is_supervised(mode), self.desk.hears_authority()),
-            (_, Order::Level(level)) => hearing(Level::try_from(level).is_ok(), self.desk.hears_level()),
+            (_, Order::Authority(mode)) => hearing(
+                is_supervised(mode),
+                self.desk.hears_authority(),
+            ),
+            (_, Order::Level(level)) => hearing(
+                Level::try_from(level).is_ok(),
+                self.desk.hears_level(),
+            ),
             (_, Order::Text { number, wanted, .. }) => self.text_refusal(number, wanted),
             (_, Order::TextWithdrawal(number)) => self.withdrawal_refusal(number),
             (_, Order::EmergencyStop) => hearing(true, self.desk.hears_stop()),

@@ -51,14 +51,13 @@ impl<E: TrainEnd> Unit<E> {
         ensures speed { E.speed_of result ≡ E.speed_of self.cab.end }
     {
         let Unit {
-            cab:
-                Cab {
-                    desk: _,
-                    train: _,
-                    cycle: _,
-                    waiting: _,
-                    mut end,
-                },
+            cab: Cab {
+                desk: _,
+                train: _,
+                cycle: _,
+                waiting: _,
+                mut end,
+            },
         } = self;
         end.set_line(BrakeLine::Emergency);
         end

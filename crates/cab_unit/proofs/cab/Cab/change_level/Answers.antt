@@ -1,5 +1,4 @@
-use Rattle.std.proofs.Common.{sym, rules}
-use Rattle.cab_unit.specs.Orders.{level_change}
+use Rattle.std.proofs.Common.{rules}
 use Rattle.telegram.specs.declared.modes.Mode.TheVariants.{StaffResponsible, Unfitted}
 use Rattle.cab_unit.specs.Places.{ordered}
 use Rattle.driver_desk.specs.declared.request.Class.TheVariants as class

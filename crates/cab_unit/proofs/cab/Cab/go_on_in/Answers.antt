@@ -1,5 +1,4 @@
 use Rattle.std.proofs.Common.{rules}
-use Rattle.cab_unit.specs.Orders.{authority_change}
 use Rattle.cab_unit.proofs.Alone.{entered-unasked}
 use Rattle.cab_unit.proofs.cab.Cab.go_on_in.Goals as goal
 

@@ -1,7 +1,9 @@
+use Rattle.std.proofs.Common.{◌≡◌, rules}
 use Rattle.telegram.specs.Format.{value_of}
 use Rattle.cab_unit.specs.Events.{Event, Event.order}
+use Rattle.cab_unit.specs.Steps.{next}
 use Rattle.cab_unit.specs.View.{view}
-use Rattle.cab_unit.proofs.Stepping.{accepted-state, facts_after}
+use Rattle.cab_unit.proofs.Stepping.{facts_after}
 use Rattle.cab_unit.proofs.unit.Unit.order.Goals as goal
 
 pub invariant_of-self : goal.invariant_of-self
@@ -10,4 +12,5 @@ invariant_of-self g c =
     let e : Event = order (value_of c.args.order) in
     let see = view g.E.TrainEnd.speed_of g.E.TrainEnd.line_of in
     let s = see c.args.self.now.cab in
-    record { facts = facts_after reads e s (see c.finish.new.self) c.args.self.now.facts (accepted-state reads e s _ _ c.in-None.ensures c.order_change-done.ensures.state c.finish.ensures.state) }
+    let state : see c.finish.new.self ≡ next reads e s = search rules in
+    record { facts = facts_after reads e s (see c.finish.new.self) c.args.self.now.facts state }
