@@ -2,7 +2,7 @@ use driver_desk::TrainRecord;
 use telegram::Order;
 
 // A call of the unit: a cycle with its block, an order, a press, the taking of a record told by its four numbers.
-#[derive(Clone, Copy)]
+#[derive(Clone, Copy, PartialEq, Eq)]
 pub enum Call<'a> {
     Cycle(&'a [u8]),
     Order(Order<'a>),

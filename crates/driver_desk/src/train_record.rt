@@ -4,7 +4,7 @@ ghost use Rattle.driver_desk.specs.Records.{record_of, record_refusal};
 use crate::refusal::Refusal;
 
 // The four numbers of a train: driver number, length in m, brake percentage, maximum speed in km/h.
-#[derive(Clone, Copy)]
+#[derive(Clone, Copy, PartialEq, Eq)]
 pub struct TrainRecord {
     pub driver: u32,
     pub length: u16,

@@ -1,7 +1,7 @@
 use crate::modes::Mode;
 
 // What an order says. A text borrows its bytes from the telegram.
-#[derive(Clone, Copy)]
+#[derive(Clone, Copy, PartialEq, Eq)]
 pub enum Order<'a> {
     Authority(Mode),
     Level(u8),
