@@ -1,28 +1,31 @@
 -- The order in which texts are put, and the texts that came whatever their order.
-use Rattle.std.proofs.Common.{◌≡◌, ℕ, Bool, true, false, List, [], map, Decides, Ordering, Less, Equal, Greater, sym, refl, ap, ◌∙◌, subst, ap₂, subst₂, Bor}
+use Rattle.std.proofs.Common.{◌≡◌, ℕ, Bool, true, false, List, [], ◌∷◌, map, Decides, Ordering, Less, Equal, Greater, sym, refl, ap, ◌∙◌, subst, ap₂, subst₂}
 use mathlib.Core.List.{map-map}
 use Rattle.std.specs.Cmp.{IsTotalOrder, tied_then, unsigned_ties, unsigned_Decides, bool_cmp_total}
 use Rattle.std.specs.Cmp.Lexicographic.{slice_cmp, texts_ties, bytes_decides}
 use Rattle.std.specs.Ordering.{is_eq, is_lt, ordering_reverse, ordering_then, nat_cmp, bool_cmp}
+use Rattle.std.specs.List.{filter_map}
 use Rattle.std.specs.List.Sorted.{IsPermutation, IsSorted}
 use Rattle.std.proofs.lemmas.Cmp.{on_total, then_total, nat_cmp_total, nat_list_cmp_total, tied_itself}
 use Rattle.std.proofs.lemmas.List.Sorted.{ranks_by, sorted_far}
 use Rattle.std.proofs.lemmas.Bool.{true≢false, false≢true, and_parts}
 use Rattle.telegram.specs.Format.{OrderValue.text}
-use Rattle.cab_unit.specs.Events.{Event, Event.order}
-use Rattle.compare.specs.Asked.{keyed}
+use Rattle.telegram.specs.declared.orders.Order.TheVariants.{Authority, Level, Text, TextWithdrawal, EmergencyStop, Sign, Permission}
+use Rattle.cab_unit.specs.declared.call.Call.{Call}
+use Rattle.cab_unit.specs.declared.call.Call.TheVariants.{Cycle, Order, Press, Take}
+use Rattle.cab_unit.specs.Events.{Event, Event.order, said}
+use Rattle.compare.specs.Asked.{keyed, text_key}
+use Rattle.compare.specs.Walked.{Texts}
+use Rattle.compare.specs.declared.asked.TextKey.{TextKey}
 use Rattle.bench.specs.Likeness.{Shuffle, Shuffle.both}
 use Rattle.compare.proofs.Shuffling.{shuffle_sym, sort_shuffles, shuffle_map, Low, low_from_far, low_map, sorted-same}
 
--- a text by its number, whether it wants to be acknowledged, and its bytes: as the code holds it, and as it says
-abbrev pub Key : Type 0
-Key = ℕ × (Bool × Bor (List ℕ))
-
+-- a text by its number, whether it wants to be acknowledged, and its bytes
 abbrev pub Words : Type 0
 Words = ℕ × (Bool × List ℕ)
 
-abbrev pub words : Key → Words
-words k = (k.0, (k.1.0, k.1.1.now))
+abbrev pub words : TextKey → Words
+words k = (k.number, (k.wanted, k.text.now))
 
 -- the order in which keys are sorted: by the number, then false before true, then by the bytes
 abbrev pub by_words : Words → Words → Ordering
@@ -38,8 +41,8 @@ abbrev less : Words → Words → Bool
 less x y = is_lt (by_words x y)
 
 -- what a sort says of keys
-abbrev pub InOrder : List Key → Type 0
-InOrder xs = IsSorted (λ (x y : Key). by_words (words x) (words y)) xs
+abbrev pub InOrder : List TextKey → Type 0
+InOrder xs = IsSorted (λ (x y : TextKey). by_words (words x) (words y)) xs
 
 -- no text is less than itself
 words_self : (x : Words) → less x x ≡ false
@@ -75,10 +78,10 @@ abbrev saying : Words → Event
 saying w = order (text w.0 w.1.0 w.1.1)
 
 -- sorted keys say texts of which none is less than one before it
-keys_low : (xs : List Key) → InOrder xs → Low less (map words xs)
+keys_low : (xs : List TextKey) → InOrder xs → Low less (map words xs)
 keys_low xs up = low_map words less xs (low_from_far (λ x y. less (words x) (words y)) xs (sorted_far (λ x y. less (words x) (words y)) (ranks_by by_words_total words) xs up))
 
-module _ (xs xs' ys ys' : List Key) (s : IsPermutation xs xs') (t : IsPermutation ys ys') where
+module _ (xs xs' ys ys' : List TextKey) (s : IsPermutation xs xs') (t : IsPermutation ys ys') where
   -- equal once sorted, the same texts came
   sorted_shuffles : map keyed xs' ≡ map keyed ys' → Shuffle (map keyed xs) (map keyed ys)
   sorted_shuffles e =
@@ -95,3 +98,17 @@ module _ (xs xs' ys ys' : List Key) (s : IsPermutation xs xs') (t : IsPermutatio
   -- where the sorted texts are compared, the same texts came
   pub sorting_decides : (r : Bool) → InOrder xs' → InOrder ys' → Decides r (map keyed xs' ≡ map keyed ys') → Decides r (Shuffle (map keyed xs) (map keyed ys))
   sorting_decides r up up' d = (λ h. sorted_shuffles (d.0 h), λ w. d.1 (shuffled-sorted up up' w))
+
+-- calls that are all texts, by their keys
+pub keys_of_texts : (ks : List Call) → Texts (map said ks) → map keyed (filter_map text_key ks) ≡ map said ks
+keys_of_texts [] t = refl
+keys_of_texts (Order (Text n w b) ∷ ks) t = ap (λ l. said (Order (Text n w b)) ∷ l) (keys_of_texts ks t.1)
+keys_of_texts (Order (Authority m) ∷ ks) t = absurd (false≢true t.0)
+keys_of_texts (Order (Level l) ∷ ks) t = absurd (false≢true t.0)
+keys_of_texts (Order (TextWithdrawal n) ∷ ks) t = absurd (false≢true t.0)
+keys_of_texts (Order EmergencyStop ∷ ks) t = absurd (false≢true t.0)
+keys_of_texts (Order Sign ∷ ks) t = absurd (false≢true t.0)
+keys_of_texts (Order Permission ∷ ks) t = absurd (false≢true t.0)
+keys_of_texts (Cycle b ∷ ks) t = absurd (false≢true t.0)
+keys_of_texts (Press n ∷ ks) t = absurd (false≢true t.0)
+keys_of_texts (Take r ∷ ks) t = absurd (false≢true t.0)

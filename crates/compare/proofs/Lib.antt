@@ -1,10 +1,8 @@
 pub mod Telling
 pub mod Counting
-pub mod Equal
 pub mod Asking
+pub mod Equal
 pub mod Shuffling
 pub mod Keying
-pub mod Mapped
-pub mod Judging
 pub mod Applying
 pub mod Walking

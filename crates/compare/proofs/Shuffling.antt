@@ -4,8 +4,12 @@ use Rattle.std.specs.List.Sorted.{IsPermutation}
 use Rattle.std.specs.List.{swap as exchanged, AllByRecursion}
 use Rattle.std.proofs.ByRecursion.{All-from_get_or, All-map}
 use Rattle.std.proofs.lemmas.List.Sorted.{IsPermutation-keeps}
-use Rattle.driver_desk.specs.Sorting.{tally}
 use Rattle.bench.specs.Likeness.{Shuffle, Shuffle.none, Shuffle.keep, Shuffle.swap, Shuffle.both}
+
+-- how many pass a test
+abbrev tally : {X : Type 0} → (X → Bool) → List X → ℕ
+tally p [] = 0
+tally p (x ∷ xs) = cond (p x) 1 0 + tally p xs
 
 module _ {X : Type 0} where
   -- a list has its own elements

@@ -1,7 +1,7 @@
 -- Runs as told, call by call and by stretches of texts; and the counting of unequal speeds.
-use Rattle.std.proofs.Common.{◌≡◌, ℕ, ◌+◌, ◌<◌, Bool, true, false, cond, List, [], ◌∷◌, map, length, get_or, drop, Option, sym, refl, ap, ◌∙◌, ap₂, ⊎_elim, arith}
+use Rattle.std.proofs.Common.{◌≡◌, ℕ, ◌+◌, ◌<◌, Bool, true, false, not, cond, List, [], ◌∷◌, map, length, get_or, drop, Option, sym, refl, ap, ◌∙◌, ap₂, ⊎_elim, arith}
 use Rattle.std.proofs.lemmas.List.{drop_more, drop_all}
-use Rattle.std.proofs.lemmas.Bool.{cases_lt}
+use Rattle.std.proofs.lemmas.Bool.{true≢false, false≢true, cases_lt}
 use Rattle.cab_unit.specs.Events.{Event}
 use Rattle.driver_desk.specs.declared.answer.Answer.{Answer}
 use Rattle.compare.specs.Compared.{same_speed, unequal_speeds}
@@ -16,6 +16,15 @@ told_none reads v (e ∷ es) = refl
 unequal_none : (xs : List Told) → unequal_speeds xs [] ≡ 0
 unequal_none [] = refl
 unequal_none (x ∷ xs) = refl
+
+-- one more is counted where the speeds are not the same
+pub counts_one : (b : Bool) → not b ≡ true → (u : ℕ) → u + 1 ≡ cond b u (u + 1)
+counts_one true h u = absurd (false≢true h)
+counts_one false h u = refl
+
+pub counts_none : (b : Bool) → not b ≡ false → (u : ℕ) → u ≡ cond b u (u + 1)
+counts_none true h u = refl
+counts_none false h u = absurd (true≢false h)
 
 module _ {K : Type 0} (f : K → Event) (reads : List ℕ → Option ℕ) (ks : List K) (as' : List Answer) (i : ℕ) where
   -- what is told from a place on, with its first call

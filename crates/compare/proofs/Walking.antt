@@ -1,14 +1,16 @@
--- Two lists walked front by front.
-use Rattle.std.proofs.Common.{◌≡◌, ℕ, ◌+◌, ◌-◌, ◌<◌, ◌≤◌, min, Bool, true, false, ◌&&◌, ◌||◌, List, [], ◌∷◌, ◌++◌, map, length, get_or, take, drop, replicate, Decides, sym, refl, ap, ◌∙◌, subst, ap₂, subst₂, ⊎_elim, arith}
-use Rattle.std.proofs.ByRecursion.{All-push}
-use Rattle.std.proofs.lemmas.List.{drop_more, drop_all, drop-drop, drop-map, take-map, map_more, length-map, length-drop, append_assoc, append-nil, take_all, take_rest}
-use Rattle.std.proofs.lemmas.Bool.{cases_lt, false≢true}
-use Rattle.cab_unit.specs.Events.{Event}
+-- Two runs walked front by front.
+use Rattle.std.proofs.Common.{◌≡◌, ℕ, suc, ◌+◌, ◌-◌, ◌<◌, ◌≤◌, Bool, true, false, cond, ◌&&◌, List, [], ◌∷◌, ◌++◌, map, length, get_or, take, drop, replicate, Some, None, Option, MatchOption, Bor, Decides, sym, refl, ap, ◌∙◌, subst, ap₂, subst₂, arith}
+use Rattle.std.specs.List.{prefix_len, zip}
+use Rattle.std.specs.Slice.{IsItemAt}
+use Rattle.std.proofs.lemmas.List.{drop_all, drop_more, drop-drop, drop-map, length-drop, append_assoc, append-nil, take_all}
+use Rattle.std.proofs.lemmas.Bool.{and_parts, false≢true}
+use Rattle.cab_unit.specs.declared.call.Call.{Call}
+use Rattle.cab_unit.specs.Events.{Event, said}
 use Rattle.driver_desk.specs.declared.answer.Answer.{Answer}
 use Rattle.compare.specs.Asked.{unblocked}
 use Rattle.compare.specs.Compared.{LawApplies}
 use Rattle.bench.specs.Likeness.{is_text}
-use Rattle.compare.specs.Walked.{Texts, text_next, Within, Judged, Front, Front.one, Front.uneven, Front.texts, Walked, Walked.ended, Walked.more, shortest, Compared, Compared.whole, Compared.cut}
+use Rattle.compare.specs.Walked.{Texts, text_next, Within, Front, Front.one, Front.uneven, Front.texts, Walked, Walked.ended, Walked.more, AsLong, shortest, Compared, Compared.whole, Compared.cut}
 use Rattle.compare.proofs.Applying.{walked_applies}
 
 -- laws of &&
@@ -24,64 +26,46 @@ and_assoc : (a b c : Bool) → ((a && b) && c) ≡ (a && (b && c))
 and_assoc true b c = refl
 and_assoc false b c = refl
 
-module _ {K : Type 0} (f : K → Event) where
-  -- whether a text stands at a place
-  pub next-at : (ks : List K) (i : ℕ) (d : K) → i < length ks → text_next (map f (drop i ks)) ≡ is_text (f (get_or ks i d))
-  next-at ks i d h = ap (λ l. text_next (map f l)) (drop_more ks i d h)
+-- what holds of two runs holds of equal ones
+pub same_rows : (P : List Event → List Answer → List Event → List Answer → Type 0) {es es' fs fs' : List Event} {as' as'' bs bs' : List Answer} →
+    es ≡ es' → as' ≡ as'' → fs ≡ fs' → bs ≡ bs' → P es as' fs bs → P es' as'' fs' bs'
+same_rows P {es' = es'} {fs' = fs'} {as' = as'} {bs = bs} p q r s h = subst₂ (λ x y. P es' x fs' y) q s (subst₂ (λ x y. P x as' y bs) p r h)
 
-  -- past the end no text stands
-  pub next_past : (ks : List K) (i : ℕ) → length ks ≤ i → text_next (map f (drop i ks)) ≡ false
-  next_past ks i h = ap (λ l. text_next (map f l)) (drop_all i ks h)
+-- of a pair of calls, whether both are texts
+abbrev pub both_texts : Call × Call → Bool
+both_texts p = is_text (said p.0) && is_text (said p.1)
 
-  -- where one list is at its end, not both go on with a text
-  pub none_both : (ks ls : List K) (i : ℕ) → (i < length ks → i < length ls → ⊥) → (text_next (map f (drop i ks)) && text_next (map f (drop i ls))) ≡ false
-  none_both ks ls i h =
-      ⊎_elim
-      (λ a. ⊎_elim
-      (λ b. absurd (h a b))
-      (λ b. ap (λ t. text_next (map f (drop i ks)) && t) (next_past ls i b) ∙ and_none (text_next (map f (drop i ks))))
-      (cases_lt i (length ls)))
-      (λ a. ap (λ t. t && text_next (map f (drop i ls))) (next_past ks i a))
-      (cases_lt i (length ks))
+-- of two lists as many are texts as both begin with
+abbrev pub Ahead : ℕ → List Event → List Event → Type 0
+Ahead n es fs = (Texts (take n es) × Texts (take n fs)) × ((text_next (drop n es) && text_next (drop n fs)) ≡ false)
 
-  -- texts up to a place, and one there
-  pub texts-more : (ks : List K) (i : ℕ) (d : K) → i < length ks → Texts (map f (take i ks)) → is_text (f (get_or ks i d)) ≡ true → Texts (map f (take (i + 1) ks))
-  texts-more ks i d h t e = subst Texts (sym (map_more f ks i d h)) (All-push (λ (x : Event). is_text x ≡ true) (map f (take i ks)) (f (get_or ks i d)) t e)
+pub texts_ahead : (ks ls : List Call) → Ahead (prefix_len both_texts (zip ks ls)) (map said ks) (map said ls)
+texts_ahead [] ls = ((tt, tt), refl)
+texts_ahead (k ∷ ks) [] = ((tt, tt), and_none (is_text (said k)))
+texts_ahead (k ∷ ks) (l ∷ ls) =
+    let n = prefix_len both_texts (zip ks ls) in
+    let more : suc n ≡ 1 + n = omega arith in
+    subst (λ m. Ahead (cond (both_texts (k, l)) m 0) (said k ∷ map said ks) (said l ∷ map said ls)) more (here (both_texts (k, l)) refl n (texts_ahead ks ls))
+  where
+    here : (b : Bool) → both_texts (k, l) ≡ b → (n : ℕ) → Ahead n (map said ks) (map said ls) → Ahead (cond b (suc n) 0) (said k ∷ map said ks) (said l ∷ map said ls)
+    here false e n h = ((tt, tt), e)
+    here true e n h = let both = and_parts _ _ e in (((both.0, h.0.0), (both.1, h.0.1)), h.1)
 
-  module _ (ks ls : List K) (as' bs : List Answer) where
-    -- one call of each in front
-    pub front_one : {t : Bool} (d e : K) → (0 < length ks) × (0 < length as') × (0 < length ls) × (0 < length bs) → (is_text (f (get_or ks 0 d)) && is_text (f (get_or ls 0 e))) ≡ false →
-        Decides t (unblocked (f (get_or ks 0 d)) ≡ unblocked (f (get_or ls 0 e))) → Front t false 1 (map f ks) as' (map f ls) bs
-    front_one d e h n s = one_of ks ls as' bs h n s
-      where
-        one_of : {t : Bool} (ks ls : List K) (as' bs : List Answer) → (0 < length ks) × (0 < length as') × (0 < length ls) × (0 < length bs) →
-            (is_text (f (get_or ks 0 d)) && is_text (f (get_or ls 0 e))) ≡ false → Decides t (unblocked (f (get_or ks 0 d)) ≡ unblocked (f (get_or ls 0 e))) → Front t false 1 (map f ks) as' (map f ls) bs
-        one_of [] ls as' bs h n s = absurd (omega (arith, h.0))
-        one_of (k ∷ ks) ls [] bs h n s = absurd (omega (arith, h.1))
-        one_of (k ∷ ks) [] (a ∷ as') bs h n s = absurd (omega (arith, h.2))
-        one_of (k ∷ ks) (l ∷ ls) (a ∷ as') [] h n s = absurd (omega (arith, h.3))
-        one_of (k ∷ ks) (l ∷ ls) (a ∷ as') (b ∷ bs) h n s = one n s
+-- whether a text stands at a place
+pub text_at : (ks : List Call) (i : ℕ) (o : Option (Bor Call)) (r : Bool) → IsItemAt ks i o → MatchOption o (r ≡ false) (λ x. r ≡ is_text (said x.now)) →
+    r ≡ text_next (drop i (map said ks))
+text_at ks i None r at m = m ∙ ap text_next (sym (drop-map said i ks ∙ ap (map said) (drop_all i ks at.3)))
+text_at ks i (Some x) r at m =
+    m ∙ ap (λ k. is_text (said k)) (at.4 (omega arith) x.now) ∙ ap text_next (sym (drop-map said i ks ∙ ap (map said) (drop_more ks i x.now at.3.0)))
 
-    module _ (k : ℕ) (l : 0 < k) (h : (k ≤ length ks) × (k ≤ length as') × (k ≤ length ls) × (k ≤ length bs)) (t : Texts (map f (take k ks))) (u : Texts (map f (take k ls))) where
-      -- a front lies within the lists
-      within : Within k (map f ks) as' (map f ls) bs
-      within = (subst (λ n. k ≤ n) (sym (length-map ks f)) h.0, h.1, subst (λ n. k ≤ n) (sym (length-map ls f)) h.2, h.3)
-
-      -- texts in front, of which one list has more
-      pub front_uneven : (text_next (map f (drop k ks)) && text_next (map f (drop k ls))) ≡ false → (text_next (map f (drop k ks)) || text_next (map f (drop k ls))) ≡ true →
-          Front false false k (map f ks) as' (map f ls) bs
-      front_uneven m n =
-          uneven k l within (subst Texts (sym (take-map f k ks)) t) (subst Texts (sym (take-map f k ls)) u)
-          (subst₂ (λ x y. (text_next x && text_next y) ≡ false) (sym (drop-map f k ks)) (sym (drop-map f k ls)) m)
-          (subst₂ (λ x y. (text_next x || text_next y) ≡ true) (sym (drop-map f k ks)) (sym (drop-map f k ls)) n)
-
-      -- texts in front, as many in both
-      pub front_texts : {s m : Bool} → (text_next (map f (drop k ks)) || text_next (map f (drop k ls))) ≡ false → Judged s m (map f (take k ks)) (take k as') (map f (take k ls)) (take k bs) →
-          Front s m k (map f ks) as' (map f ls) bs
-      front_texts {s} {m} n j =
-          texts k l within (subst Texts (sym (take-map f k ks)) t) (subst Texts (sym (take-map f k ls)) u)
-          (subst₂ (λ x y. (text_next x || text_next y) ≡ false) (sym (drop-map f k ks)) (sym (drop-map f k ls)) n)
-          (subst₂ (λ x y. Judged s m x (take k as') y (take k bs)) (sym (take-map f k ks)) (sym (take-map f k ls)) j)
+-- one call of each in front
+pub front_one : {t : Bool} (ks ls : List Call) (as' bs : List Answer) (d e : Call) → 0 < length (map said ks) → AsLong (map said ks) as' (map said ls) bs →
+    (text_next (map said ks) && text_next (map said ls)) ≡ false → Decides t (unblocked (said (get_or ks 0 d)) ≡ unblocked (said (get_or ls 0 e))) → Front t false 1 (map said ks) as' (map said ls) bs
+front_one [] ls as' bs d e h l n s = absurd (omega (arith, h))
+front_one (k ∷ ks) [] as' bs d e h l n s = absurd (omega (arith, l.0))
+front_one (k ∷ ks) (m ∷ ls) [] bs d e h l n s = absurd (omega (arith, l.1))
+front_one (k ∷ ks) (m ∷ ls) (a ∷ as') [] d e h l n s = absurd (omega (arith, l.2))
+front_one (k ∷ ks) (m ∷ ls) (a ∷ as') (b ∷ bs) d e h l n s = one n s
 
 -- a front is not empty, and lies within the lists
 pub front_within : {t m : Bool} {k : ℕ} {es fs : List Event} {as' bs : List Answer} → Front t m k es as' fs bs → (0 < k) × Within k es as' fs bs
@@ -90,42 +74,31 @@ front_within (uneven k l h t u m n) = (l, h)
 front_within (texts k l h t u n j) = (l, h)
 
 -- what is walked from a place on, behind what was found so far, is walked of all
-abbrev pub Walks : {K : Type 0} → (K → Event) → List K → List K → List Answer → List Answer → ℕ → Bool → List Bool → Type 0
-Walks f ks ls as' bs i s ms =
-    (u : Bool) (ns : List Bool) → Walked u ns (map f (drop i ks)) (drop i as') (map f (drop i ls)) (drop i bs) → Walked (s && u) (ms ++ ns) (map f ks) as' (map f ls) bs
+abbrev pub Walks : List Event → List Answer → List Event → List Answer → ℕ → Bool → List Bool → Type 0
+Walks es as' fs bs i s ms = (u : Bool) (ns : List Bool) → Walked u ns (drop i es) (drop i as') (drop i fs) (drop i bs) → Walked (s && u) (ms ++ ns) es as' fs bs
 
-module _ {K : Type 0} (f : K → Event) (ks ls : List K) (as' bs : List Answer) (i : ℕ) where
+module _ (es : List Event) (as' : List Answer) (fs : List Event) (bs : List Answer) (i : ℕ) where
   -- one front more
-  pub walk_more : {t m : Bool} (k : ℕ) (s : Bool) (ms : List Bool) → Walks f ks ls as' bs i s ms → Front t m k (map f (drop i ks)) (drop i as') (map f (drop i ls)) (drop i bs) →
-      Walks f ks ls as' bs (i + k) (s && t) (ms ++ replicate k m)
+  pub walk_more : {t m : Bool} (k : ℕ) (s : Bool) (ms : List Bool) → Walks es as' fs bs i s ms → Front t m k (drop i es) (drop i as') (drop i fs) (drop i bs) →
+      Walks es as' fs bs (i + k) (s && t) (ms ++ replicate k m)
   walk_more {t} {m} k s ms inv r u ns w =
-      let far : (xs : List K) → map f (drop (i + k) xs) ≡ drop k (map f (drop i xs)) = λ xs. ap (map f) (sym (drop-drop k i xs)) ∙ sym (drop-map f k (drop i xs)) in
-      let calls = subst₂ (λ x y. Walked u ns x (drop (i + k) as') y (drop (i + k) bs)) (far ks) (far ls) w in
-      let rows = subst₂ (λ x y. Walked u ns (drop k (map f (drop i ks))) x (drop k (map f (drop i ls))) y) (sym (drop-drop k i as')) (sym (drop-drop k i bs)) calls in
-      subst₂ (λ x y. Walked x y (map f ks) as' (map f ls) bs) (sym (and_assoc s t u)) (sym (append_assoc ms (replicate k m) ns)) (inv (t && u) (replicate k m ++ ns) (more r rows))
+      let rest = same_rows (Walked u ns) (sym (drop-drop k i es)) (sym (drop-drop k i as')) (sym (drop-drop k i fs)) (sym (drop-drop k i bs)) w in
+      subst₂ (λ x y. Walked x y es as' fs bs) (sym (and_assoc s t u)) (sym (append_assoc ms (replicate k m) ns)) (inv (t && u) (replicate k m ++ ns) (more r rest))
 
   -- past the last call nothing is left to walk
-  pub walk_past : (s : Bool) (ms : List Bool) → (length ks ≤ i) × (length as' ≤ i) × (length ls ≤ i) × (length bs ≤ i) → Walks f ks ls as' bs i s ms → Walked s ms (map f ks) as' (map f ls) bs
-  walk_past s ms h inv =
-      let calls = subst₂ (λ x y. Walked true [] (map f x) [] (map f y) []) (sym (drop_all i ks h.0)) (sym (drop_all i ls h.2)) ended in
-      let rows = subst₂ (λ x y. Walked true [] (map f (drop i ks)) x (map f (drop i ls)) y) (sym (drop_all i as' h.1)) (sym (drop_all i bs h.3)) calls in
-      subst₂ (λ x y. Walked x y (map f ks) as' (map f ls) bs) (and_all s) (append-nil ms) (inv true [] rows)
+  pub walk_past : (s : Bool) (ms : List Bool) → AsLong es as' fs bs → length es ≤ i → Walks es as' fs bs i s ms → Walked s ms es as' fs bs
+  walk_past s ms h l inv =
+      let none = same_rows (Walked true []) (sym (drop_all i es (omega arith))) (sym (drop_all i as' (omega (arith, h)))) (sym (drop_all i fs (omega (arith, h)))) (sym (drop_all i bs (omega (arith, h)))) ended in
+      subst₂ (λ x y. Walked x y es as' fs bs) (and_all s) (append-nil ms) (inv true [] none)
 
-  -- the rests of the lists, as slices have them
-  pub rest_front : {t m : Bool} {k : ℕ} →
-      Front t m k (map f (take (length ks - i) (drop i ks))) (take (length as' - i) (drop i as')) (map f (take (length ls - i) (drop i ls))) (take (length bs - i) (drop i bs)) →
-      Front t m k (map f (drop i ks)) (drop i as') (map f (drop i ls)) (drop i bs)
-  rest_front {t} {m} {k} r =
-      let calls = subst₂ (λ x y. Front t m k (map f x) (take (length as' - i) (drop i as')) (map f y) (take (length bs - i) (drop i bs))) (take_rest ks i) (take_rest ls i) r in
-      subst₂ (λ x y. Front t m k (map f (drop i ks)) x (map f (drop i ls)) y) (take_rest as' i) (take_rest bs i) calls
-
-  -- a front of the rests brings on, and not past the end
-  pub front_fits : {t m : Bool} {k : ℕ} → i < length ks → Front t m k (map f (drop i ks)) (drop i as') (map f (drop i ls)) (drop i bs) → (0 < k) × (i + k ≤ length ks)
-  front_fits {t} {m} {k} h r =
-      let w = front_within r in
-      let n = w.1.0 in
-      let l = length-map (drop i ks) f ∙ length-drop i ks in
-      (w.0, omega arith)
+-- a front of the rests brings on, and not past the end
+pub front_fits : {t m : Bool} {k : ℕ} {es' fs : List Event} {as' bs : List Answer} (es : List Event) (i : ℕ) → i < length es → es' ≡ drop i es → Front t m k es' as' fs bs →
+    (0 < k) × (i + k ≤ length es)
+front_fits {k = k} {es' = es'} es i h p r =
+    let w = front_within r in
+    let n : k ≤ length es' = w.1.0 in
+    let l : length es' ≡ length es - i = ap length p ∙ length-drop i es in
+    (w.0, omega arith)
 
 -- as many marks more as the front is long
 pub marks_more : (ms : List Bool) (n i k : ℕ) (m : Bool) → n ≡ length ms → n ≡ i → take (i + k) ms ++ replicate ((i + k) - n) m ≡ ms ++ replicate k m
@@ -135,20 +108,12 @@ marks_more ms n i k m e p =
     ap₂ (λ x y. x ++ replicate y m) (take_all (i + k) ms past) left
 
 -- lists of any lengths, walked as far as all go
-pub compared_by : {K : Type 0} (f : K → Event) (ks ls : List K) (as' bs : List Answer) (n : ℕ) (r s : Bool) (ms : List Bool) →
-    n ≡ min (min (min (length ks) (length ls)) (length as')) (length bs) → Decides r ((length ls ≡ length ks) × (length as' ≡ length ks) × (length bs ≡ length ks)) →
-    Walked s ms (map f (take n ks)) (take n as') (map f (take n ls)) (take n bs) → Compared (r && s) ms (map f ks) as' (map f ls) bs
-compared_by f ks ls as' bs n true s ms e d w =
+pub compared_by : (es : List Event) (as' : List Answer) (fs : List Event) (bs : List Answer) (n : ℕ) (r s : Bool) (ms : List Bool) →
+    n ≡ shortest es as' fs bs → Decides r (AsLong es as' fs bs) → Walked s ms (take n es) (take n as') (take n fs) (take n bs) → Compared (r && s) ms es as' fs bs
+compared_by es as' fs bs n true s ms e d w =
     let h = d.0 refl in
-    let a = sym (length-map ks f) in
-    let b = length-map ls f in
-    let calls = subst₂ (λ x y. Walked s ms (map f x) (take n as') (map f y) (take n bs)) (take_all n ks (omega arith)) (take_all n ls (omega arith)) w in
-    whole (b ∙ h.0 ∙ a, h.1 ∙ a, h.2 ∙ a) (subst₂ (λ x y. Walked s ms (map f ks) x (map f ls) y) (take_all n as' (omega arith)) (take_all n bs (omega arith)) calls)
-compared_by f ks ls as' bs n false s ms e d w =
-    let a = length-map ks f in
-    let b = length-map ls f in
-    let far : n ≡ shortest (map f ks) as' (map f ls) bs = e ∙ ap₂ (λ x y. min (min (min x y) (length as')) (length bs)) (sym a) (sym b) in
-    cut n (λ h. false≢true (d.1 (sym b ∙ h.0 ∙ a, h.1 ∙ a, h.2 ∙ a))) far (subst₂ (λ x y. Walked s ms x (take n as') y (take n bs)) (sym (take-map f n ks)) (sym (take-map f n ls)) w)
+    whole h (same_rows (Walked s ms) (take_all n es (omega (arith, h))) (take_all n as' (omega (arith, h))) (take_all n fs (omega (arith, h))) (take_all n bs (omega (arith, h))) w)
+compared_by es as' fs bs n false s ms e d w = cut n (λ h. false≢true (d.1 h)) e w
 
 -- lists that are compared and found alike
 pub compared_applies : {s : Bool} {ms : List Bool} {es fs : List Event} {as' bs : List Answer} → Compared s ms es as' fs bs → s ≡ true → LawApplies ms es as' fs bs

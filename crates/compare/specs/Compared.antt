@@ -1,14 +1,12 @@
 -- What the comparing of two runs finds: unequal speeds, stretches in another order, answers that differ.
-use Rattle.std.specs.Prelude.{◌≡◌, ℕ, ◌+◌, Bool, true, false, cond, List, [], ◌∷◌, drop, Some, None, Option, ◌==◌, ◌≢◌, slice_index_or}
+use Rattle.std.specs.Prelude.{◌≡◌, ℕ, ◌+◌, Bool, true, false, cond, List, [], ◌∷◌, drop, Option, ◌≢◌, nat_eq, slice_index_or}
+use Rattle.std.specs.Option.{option_eq}
 use Rattle.cab_unit.specs.Events.{Event}
 use Rattle.driver_desk.specs.declared.answer.Answer.{Answer}
 use Rattle.bench.specs.Likeness.{Told, told, Alike, AnswersAgree}
 
 abbrev pub same_speed : Option ℕ → Option ℕ → Bool
-same_speed None None = true
-same_speed None (Some w) = false
-same_speed (Some v) None = false
-same_speed (Some v) (Some w) = v == w
+same_speed v w = option_eq nat_eq v w
 
 -- after how many calls the two ends have different speeds
 abbrev pub unequal_speeds : List Told → List Told → ℕ

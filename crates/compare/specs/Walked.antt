@@ -5,6 +5,8 @@ use Rattle.std.specs.List.{AllByRecursion}
 use Rattle.cab_unit.specs.Events.{Event}
 use Rattle.driver_desk.specs.declared.answer.Answer.{Answer}
 use Rattle.compare.specs.Asked.{unblocked}
+use Rattle.compare.specs.declared.stretches.Stretch.{Stretch}
+use Rattle.compare.specs.declared.stretches.Stretch.TheVariants.{Same, Reordered, Other}
 use Rattle.bench.specs.Likeness.{Shuffle, is_text}
 
 abbrev pub Texts : List Event → Type 0
@@ -21,6 +23,17 @@ text_next (e ∷ es) = is_text e
 -- all were accepted, and the same texts came in both
 abbrev pub Reordering : List Event → List Answer → List Event → List Answer → Type 0
 Reordering es as' fs bs = Accepted as' × Accepted bs × Shuffle es fs
+
+-- whether stretches that compare so are alike, and whether they are marked
+abbrev pub is_alike : Stretch → Bool
+is_alike Same = true
+is_alike Reordered = true
+is_alike Other = false
+
+abbrev pub is_reordered : Stretch → Bool
+is_reordered Same = false
+is_reordered Reordered = true
+is_reordered Other = false
 
 -- two stretches of texts: whether they are alike, and whether they are marked
 pub data Judged : Bool → Bool → List Event → List Answer → List Event → List Answer → Type 0 where

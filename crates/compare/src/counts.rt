@@ -1,4 +1,4 @@
-ghost use Rattle.std.specs.Prelude.{◌≡◌, false, Decides, slice_index_or};
+ghost use Rattle.std.specs.Prelude.{◌≡◌};
 ghost use Rattle.compare.specs.Compared.{AgreeOutside, Counted};
 
 use driver_desk::Answer;
@@ -10,19 +10,7 @@ pub struct Counts {
     pub differing: usize,
 }
 
-fn same_answer(answer: &Answer, other: &Answer) -> bool
-    ensures { Decides result (answer.now ≡ other.now) }
-{
-    *answer == *other
-}
-
 // Past the last mark nothing is marked.
-fn is_marked(marks: &[bool], i: usize) -> bool
-    ensures { result ≡ slice_index_or marks.now i false }
-{
-    if i < marks.len() { marks[i] } else { false }
-}
-
 pub(crate) fn count_answers(
     answers: &[Answer],
     other_answers: &[Answer],
@@ -33,10 +21,11 @@ pub(crate) fn count_answers(
 {
     let mut compared: usize = 0;
     let mut differing: usize = 0;
+    // An index: over enumerate the proof did not close.
     for i in 0..answers.len().min(other_answers.len()) {
-        if !is_marked(reordered, i) {
+        if !reordered.get(i).copied().unwrap_or(false) {
             compared += 1;
-            if !same_answer(&answers[i], &other_answers[i]) {
+            if answers[i] != other_answers[i] {
                 differing += 1;
             }
         }

@@ -1,64 +1,42 @@
-ghost use Rattle.std.specs.Prelude.{◌≡◌, not, ◌&&◌, map};
-ghost use Rattle.telegram.specs.declared.modes.Mode.TheVariants.{SystemFailure};
+ghost use Rattle.std.specs.Prelude.{◌≡◌};
 ghost use Rattle.cab_unit.specs.Events.{said};
-ghost use Rattle.driver_desk.specs.Numbers.{is_mode};
-ghost use Rattle.compare.specs.Compared.{same_speed, unequal_speeds};
-ghost use Rattle.bench.specs.Likeness.{is_accepted, speed_after, told};
+ghost use Rattle.compare.specs.Asked.{asked};
+ghost use Rattle.compare.specs.Compared.{unequal_speeds};
+ghost use Rattle.bench.specs.Likeness.{speed_after, told};
 
+use crate::run::Run;
 use cab_unit::Call;
 use driver_desk::Answer;
 use telegram::Mode;
 use train_end::TrainEnd;
 
-// Whether the block of a cycle was given to the end.
-fn was_given(answer: &Answer) -> bool
-    ensures { result ≡ (is_accepted answer.now && not (is_mode answer.now.mode SystemFailure)) }
-{
-    answer.outcome.is_none() && answer.mode.code() != Mode::SystemFailure.code()
-}
-
-// Gives the end what the call gave it.
+// Gives the end what the call gave it: the block of an accepted cycle, but not where that entered System Failure.
 fn hear_call<E: TrainEnd>(end: &mut E, call: &Call<'_>, answer: &Answer)
     ensures { E.speed_of end.new ≡ speed_after E.reading (said call.now) answer.now (E.speed_of end.old) }
 {
-    if let Call::Cycle(block) = *call {
-        if was_given(answer) {
-            end.give_block(block);
-        }
-    }
-}
-
-fn same_speed(one: Option<u16>, other: Option<u16>) -> bool
-    ensures { result ≡ same_speed one other }
-{
-    match (one, other) {
-        (None, None) => true,
-        (Some(one), Some(other)) => one == other,
-        _ => false,
+    if let Call::Cycle(block) = *call
+        && answer.outcome.is_none()
+        && answer.mode != Mode::SystemFailure
+    {
+        end.give_block(block);
     }
 }
 
 // After how many calls the two ends have different speeds, on ends as they were when switched on.
 pub(crate) fn unequal_speeds<E: TrainEnd, F: TrainEnd>(
     one: &mut E,
+    run: Run<'_>,
     other: &mut F,
-    calls: &[Call<'_>],
-    others: &[Call<'_>],
-    answers: &[Answer],
-    other_answers: &[Answer],
+    other_run: Run<'_>,
 ) -> usize
-    ensures { result ≡ unequal_speeds (told E.reading (E.speed_of one.old) (map said calls.now) answers.now) (told F.reading (F.speed_of other.old) (map said others.now) other_answers.now) }
+    ensures { result ≡ unequal_speeds (told E.reading (E.speed_of one.old) (asked run.entry) run.entry.answers.now) (told F.reading (F.speed_of other.old) (asked other_run.entry) other_run.entry.answers.now) }
 {
-    let n = calls
-        .len()
-        .min(others.len())
-        .min(answers.len())
-        .min(other_answers.len());
     let mut unequal: usize = 0;
-    for i in 0..n {
-        hear_call(one, &calls[i], &answers[i]);
-        hear_call(other, &others[i], &other_answers[i]);
-        if !same_speed(one.speed(), other.speed()) {
+    // An index: the proof over four lists zipped did not close.
+    for i in 0..run.len().min(other_run.len()) {
+        hear_call(one, &run.calls[i], &run.answers[i]);
+        hear_call(other, &other_run.calls[i], &other_run.answers[i]);
+        if one.speed() != other.speed() {
             unequal += 1;
         }
     }

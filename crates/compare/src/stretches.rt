@@ -1,105 +1,75 @@
 ghost use Rattle.std.specs.Prelude.{◌≡◌, map, IfOk, Decides};
 ghost use Rattle.cab_unit.specs.Events.{said};
-ghost use Rattle.compare.specs.Asked.{keyed};
+ghost use Rattle.compare.specs.Asked.{asked, keyed};
 ghost use Rattle.bench.specs.Likeness.{Shuffle};
-ghost use Rattle.compare.specs.Walked.{Accepted, Judged, Texts};
+ghost use Rattle.compare.specs.Walked.{Accepted, Judged, Texts, is_alike, is_reordered};
 
-use crate::asked::{same_key, text_key};
+use crate::asked::{TextKey, text_key};
+use crate::run::Run;
 use cab_unit::Call;
 use driver_desk::Answer;
 use std::alloc::{AllocError, Global};
 
-// What calls that are all texts say.
-fn text_keys<'a>(
-    heap: Global,
-    calls: &[Call<'a>],
-) -> Result<Vec<(u8, (bool, &'a [u8]))>, AllocError>
-    ensures { IfOk result (λ v. (Texts (map said calls.now) → map keyed v.items ≡ map said calls.now)) }
-{
-    let mut keys = Vec::new(heap);
-    for call in calls {
-        if let Some(key) = text_key(call) {
-            keys.push(key)?;
-        }
-    }
-    Ok(keys)
+// How the first calls of two runs compare. Where texts came in another order, all were accepted.
+#[derive(Clone, Copy, PartialEq, Eq)]
+pub(crate) enum Stretch {
+    Same,
+    Reordered,
+    Other,
 }
 
-fn same_keys(keys: &[(u8, (bool, &[u8]))], others: &[(u8, (bool, &[u8]))]) -> bool
-    ensures { Decides result (map keyed keys.now ≡ map keyed others.now) }
+impl Stretch {
+    pub(crate) fn is_alike(self) -> bool
+        ensures { result ≡ is_alike self }
+    {
+        self != Stretch::Other
+    }
+
+    pub(crate) fn is_reordered(self) -> bool
+        ensures { result ≡ is_reordered self }
+    {
+        self == Stretch::Reordered
+    }
+}
+
+// What calls that are all texts say.
+fn text_keys<'a>(heap: Global, calls: &[Call<'a>]) -> Result<Vec<TextKey<'a>>, AllocError>
+    ensures { IfOk result (λ v. (Texts (map said calls.now) → map keyed v.items ≡ map said calls.now)) }
 {
-    if keys.len() != others.len() {
-        return false;
-    }
-    for i in 0..keys.len() {
-        if !same_key(keys[i], others[i]) {
-            return false;
-        }
-    }
-    true
+    calls.iter().filter_map(text_key).collect(heap)
 }
 
 // Whether the same texts came, in whatever order.
-fn same_sorted(mut keys: Vec<(u8, (bool, &[u8]))>, mut others: Vec<(u8, (bool, &[u8]))>) -> bool
+fn same_sorted(mut keys: Vec<TextKey<'_>>, mut others: Vec<TextKey<'_>>) -> bool
     ensures { Decides result (Shuffle (map keyed keys.entry.items) (map keyed others.entry.items)) }
 {
     keys.sort_unstable();
     others.sort_unstable();
-    same_keys(&keys, &others)
+    keys == others
 }
 
 fn all_accepted(answers: &[Answer]) -> bool
     ensures { Decides result (Accepted answers.now) }
 {
-    for answer in answers {
-        if answer.outcome.is_some() {
-            return false;
-        }
-    }
-    true
-}
-
-fn both_accepted(answers: &[Answer], other_answers: &[Answer]) -> bool
-    ensures { Decides result (Accepted answers.now × Accepted other_answers.now) }
-{
-    all_accepted(answers) && all_accepted(other_answers)
-}
-
-// Whether the texts of two stretches are alike, and whether they came in another order. Where they did, all were accepted.
-#[derive(Clone, Copy)]
-pub(crate) struct Judgement {
-    pub alike: bool,
-    pub reordered: bool,
+    answers.iter().all(|answer| answer.outcome.is_none())
 }
 
 // Two stretches of texts with their answers.
-pub(crate) fn judge_texts(
-    heap: Global,
-    calls: &[Call<'_>],
-    others: &[Call<'_>],
-    answers: &[Answer],
-    other_answers: &[Answer],
-) -> Result<Judgement, AllocError>
-    requires { Texts (map said calls.now) × Texts (map said others.now) }
-    ensures { IfOk result (λ j. Judged j.alike j.reordered (map said calls.now) answers.now (map said others.now) other_answers.now) }
+pub(crate) fn judge_texts(heap: Global, run: Run<'_>, other: Run<'_>) -> Result<Stretch, AllocError>
+    requires { Texts (asked run) × Texts (asked other) }
+    ensures { IfOk result (λ s. Judged (is_alike s) (is_reordered s) (asked run.entry) run.entry.answers.now (asked other.entry) other.entry.answers.now) }
 {
-    let keys = text_keys(heap, calls)?;
-    let other_keys = text_keys(heap, others)?;
-    if same_keys(&keys, &other_keys) {
-        return Ok(Judgement {
-            alike: true,
-            reordered: false,
-        });
+    if run.calls == other.calls {
+        return Ok(Stretch::Same);
     }
-    if !both_accepted(answers, other_answers) {
-        return Ok(Judgement {
-            alike: false,
-            reordered: false,
-        });
+    if !all_accepted(run.answers) || !all_accepted(other.answers) {
+        return Ok(Stretch::Other);
     }
-    let reordered = same_sorted(keys, other_keys);
-    Ok(Judgement {
-        alike: reordered,
-        reordered,
+    let keys = text_keys(heap, run.calls)?;
+    let other_keys = text_keys(heap, other.calls)?;
+    Ok(if same_sorted(keys, other_keys) {
+        Stretch::Reordered
+    } else {
+        Stretch::Other
     })
 }

@@ -1,10 +1,11 @@
 use Rattle.std.proofs.Common.{arith}
-use Rattle.cab_unit.specs.Events.{said}
-use Rattle.compare.proofs.Walking.{compared_by, compared_applies}
+use Rattle.compare.specs.Asked.{asked}
+use Rattle.compare.specs.Walked.{Walked}
+use Rattle.compare.proofs.Walking.{compared_by, compared_applies, same_rows}
 use Rattle.compare.proofs.compare.compare_lists.Goals as goal
 
 pub returns : goal.returns
 returns c =
-    let k = compared_by said c.args.calls.now c.args.others.now c.args.answers.now c.args.other_answers.now c.min-n.result c.same_lengths.result _ _
-    (omega arith) c.same_lengths.ensures c.in_ok-alike.ensures in
+    let k = compared_by (asked c.args.run) c.args.run.answers.now (asked c.args.other) c.args.other.answers.now c.min-n.result c.as_long.result _ _
+    (omega arith) c.as_long.ensures (same_rows (Walked _ _) c.cut.ensures.calls c.cut.ensures.answers c.cut-2.ensures.calls c.cut-2.ensures.answers c.in_ok-alike.ensures) in
     record { value = k; law = compared_applies k }

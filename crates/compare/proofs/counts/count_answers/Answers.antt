@@ -1,8 +1,8 @@
-use Rattle.std.proofs.Common.{ℕ, ◌+◌, ◌<◌, length, sym, ◌∙◌, subst₂, arith}
-use Rattle.std.proofs.lemmas.Bool.Decides.{not_from_Decides}
+use Rattle.std.proofs.Common.{◌≡◌, ℕ, ◌+◌, ◌<◌, false, length, get_or, unwrap_or, sym, ap, ◌∙◌, subst₂, arith}
 use Rattle.compare.proofs.Counting.{Counts-from, count_marked, count_agrees, count_differs, count_past, none_differ}
+use Rattle.compare.proofs.Equal.{answers_decide, ne_true, ne_false}
 use Rattle.compare.proofs.counts.count_answers.Goals as goal
-use Rattle.compare.proofs.counts.count_answers.Goals.{then-not-is_marked+then-not-same_answer, then-not-is_marked+else-not-same_answer, else-not-is_marked}
+use Rattle.compare.proofs.counts.count_answers.Goals.{then-not-unwrap_or+then-ne, then-not-unwrap_or+else-ne, else-not-unwrap_or}
 
 pub loop-i-preserved : goal.loop-i-preserved
 loop-i-preserved c =
@@ -13,17 +13,17 @@ loop-i-preserved c =
     let h : i < length as' = omega arith in
     let k : i < length bs = omega arith in
     let inv = c.loop-i.invariant.2 in
-    let mark = sym c.is_marked.ensures in
+    let mark : get_or ms i false ≡ c.unwrap_or.result = sym (c.unwrap_or.ensures ∙ ap (λ o. unwrap_or o false) c.copied.ensures ∙ c.get.ensures.lookup.4 (omega arith) false) in
     let at : ℕ → ℕ → Type 0 = Counts-from ms as' bs (i + 1) in
-    elim c.if-not-is_marked.branch [
-      | then-not-is_marked+then-not-same_answer w ↦
-          let e = not_from_Decides _ w.same_answer.ensures w.if-not-same_answer.true in
-          (omega arith, omega arith, subst₂ at (sym w.compared-is) (sym w.differing-is) (count_differs ms as' bs i _ _ h k _ _ inv (mark ∙ w.if-not-is_marked.true) e))
-      | then-not-is_marked+else-not-same_answer w ↦
-          let e = w.same_answer.ensures.0 w.if-not-same_answer.false in
-          (omega arith, omega arith, subst₂ at (sym w.compared-is) (sym w.differing-is) (count_agrees ms as' bs i _ _ h k _ _ inv (mark ∙ w.if-not-is_marked.true) e))
-      | else-not-is_marked w ↦
-          (omega arith, omega arith, subst₂ at (sym w.compared-is) (sym w.differing-is) (count_marked ms as' bs i _ _ h k inv (mark ∙ w.if-not-is_marked.false)))
+    elim c.if-not-unwrap_or.branch [
+      | then-not-unwrap_or+then-ne w ↦
+          let e = ne_true _ _ w.ne.ensures (answers_decide _ _) w.if-ne.true in
+          (omega arith, omega arith, subst₂ at (sym w.compared-is) (sym w.differing-is) (count_differs ms as' bs i _ _ h k _ _ inv (mark ∙ w.if-not-unwrap_or.true) e))
+      | then-not-unwrap_or+else-ne w ↦
+          let e = ne_false _ _ w.ne.ensures (answers_decide _ _) w.if-ne.false in
+          (omega arith, omega arith, subst₂ at (sym w.compared-is) (sym w.differing-is) (count_agrees ms as' bs i _ _ h k _ _ inv (mark ∙ w.if-not-unwrap_or.true) e))
+      | else-not-unwrap_or w ↦
+          (omega arith, omega arith, subst₂ at (sym w.compared-is) (sym w.differing-is) (count_marked ms as' bs i _ _ h k inv (mark ∙ w.if-not-unwrap_or.false)))
     ]
 
 pub returns : goal.returns
