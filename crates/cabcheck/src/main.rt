@@ -1,7 +1,6 @@
 // The program: runs a call list through a bus cab and a pulse cab, and lays their answers side by side.
 #![tactic(auto)]
 
-mod compare;
 mod failure;
 mod input;
 mod messages;

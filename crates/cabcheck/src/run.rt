@@ -1,4 +1,3 @@
-use crate::compare::{Counts, compare_lists, count_answers, unequal_speeds};
 use crate::failure::Failure;
 use crate::input::read_source;
 use crate::options::Options;
@@ -8,6 +7,7 @@ use crate::table::print_table;
 use crate::tsv::print_tsv;
 use bench::{Ran, run_both};
 use call_list::{Listed, read_list};
+use compare::{Counts, Verdict, compare_runs};
 use std::io;
 use std::io::{BufWriter, Write};
 use std::process::ExitCode;
@@ -61,17 +61,23 @@ fn print_sides(
     pulse: &Side<'_, '_>,
 ) -> io::Result<bool> {
     let heap = rt.alloc();
-    let calls = bus.plan.calls.as_slice();
-    let others = pulse.plan.calls.as_slice();
-    let likeness = compare_lists(heap, calls, others, bus.answers, pulse.answers)?;
-    let counts = count_answers(bus.answers, pulse.answers, &likeness);
+    let Verdict {
+        likeness,
+        unequal,
+        counts,
+    } = compare_runs(
+        heap,
+        &mut BusEnd::new(),
+        bus.run(),
+        &mut PulseEnd::new(),
+        pulse.run(),
+    )?;
     let mut out = BufWriter::new(heap, rt.stdout())?;
     if options.tsv {
         print_tsv(&mut out, Cab::Bus, bus)?;
         print_tsv(&mut out, Cab::Pulse, pulse)?;
     } else {
         print_table(&mut out, heap, bus, pulse, &likeness)?;
-        let unequal = unequal_speeds(calls, others, bus.answers, pulse.answers);
         writeln!(out, "the speeds differ after {unequal} calls")?;
         if options.second.is_some() {
             print_likeness(&mut out, likeness.alike, unequal == 0)?;

@@ -3,6 +3,7 @@ ghost use Rattle.std.specs.Iterator.{at_most};
 
 use crate::plan::{Note, Places, Plan, Planned, What};
 use cab_unit::{Call, Unit};
+use compare::Run;
 use driver_desk::Answer;
 use train_end::TrainEnd;
 
@@ -25,6 +26,14 @@ impl<'p, 'c> Side<'p, 'c> {
         let on = unit.answer();
         let _end = unit.switch_off();
         Side { on, plan, answers }
+    }
+
+    // The calls and their answers, to be compared with another run.
+    pub fn run(&self) -> Run<'p> {
+        Run {
+            calls: self.plan.calls.as_slice(),
+            answers: self.answers,
+        }
     }
 
     pub fn rows(&self) -> Rows<'p, 'c> {

@@ -1,9 +1,9 @@
-use crate::compare::{Likeness, same_asked};
 use crate::messages::{FREE, Messages, ROWS};
 use crate::plan::{Cab, Note, Places};
 use crate::side::{Row, Side, Told};
 use crate::words::{CallWords, RequestWords, outcome_number};
 use cab_unit::Call;
+use compare::{Likeness, same_asked};
 use driver_desk::Answer;
 use itertools::Itertools;
 use std::alloc::Global;
