@@ -60,6 +60,7 @@ impl<E: TrainEnd> Cab<E> {
         }
     }
 
+    // A refusal or none, and no Result: that is what an answer's outcome holds.
     pub fn order_refusal(&self, order: Order<'_>) -> Option<Refusal>
         ensures { result ≡ refusal_of (events.Event.order (value_of order.entry)) (view E.speed_of E.line_of self.now) }
     {

@@ -68,7 +68,7 @@ pub struct Planned {
     pub what: What,
 }
 
-// The calls of one cab, and the rows that tell of them.
+// The calls of one cab, and the rows that tell of them. The calls stand by themselves, since a run takes them as a slice.
 #[derive(Drop)]
 pub struct Plan<'a> {
     pub calls: Vec<Call<'a>>,

@@ -12,6 +12,7 @@ use std::{fmt, io};
 use train_end::{BusEnd, PulseEnd};
 
 // What stands behind the requests: the places of a telegram's order, or what the two ends read in the blocks of a cycle.
+// Blank is a case of its own, since it is printed too, and an Option can't be given a Display here.
 #[derive(Clone, Copy)]
 enum Column {
     Blank,

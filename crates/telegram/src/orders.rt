@@ -1,6 +1,6 @@
 use crate::modes::Mode;
 
-// What an order says. A text borrows its bytes from the telegram.
+// What an order says. A text borrows its bytes from the telegram. A level is a number, so that one outside the list can be told and refused.
 #[derive(Clone, Copy, Debug, PartialEq, Eq)]
 pub enum Order<'a> {
     Authority(Mode),

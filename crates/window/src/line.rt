@@ -5,6 +5,7 @@ ghost use Rattle.std.proofs.Common.{rules};
 use ordering::order::Ordered;
 use std::cmp::Reverse;
 
+// A place and a length and no borrowed text: the store takes new texts while the line stands.
 #[derive(Clone, Copy, PartialEq, Eq, Debug)]
 pub struct Line {
     pub cycle: u32,
