@@ -7,25 +7,6 @@ use Rattle.std.proofs.lemmas.Bool.Decides.{nat_tests}
 use Rattle.call_list.specs.Words.{is_empty}
 use Rattle.call_list.specs.Numbers.{is_digit, digits_value, number_of, Within, ReadsWritten}
 
--- one digit more, at a byte that ends the number, and at the end of the word
-module _ (limit v : ℕ) (word : List ℕ) (i : ℕ) (all : Option ℕ) (inv : digits_value limit v (drop i word) ≡ all) where
-  abbrev next : ℕ
-  next = v * 10 + (get_or word i 0 - 48)
-
-  step : i < length word → cond (is_digit (get_or word i 0) && leb next limit) (digits_value limit next (drop (i + 1) word)) None ≡ all
-  step l = sym (at_drop_more (digits_value limit v) word i 0 l) ∙ inv
-
-  pub digits_more : i < length word → 48 ≤ get_or word i 0 → get_or word i 0 ≤ 57 → next ≤ limit → digits_value limit next (drop (i + 1) word) ≡ all
-  digits_more l low high small =
-      let e : (is_digit (get_or word i 0) && leb next limit) ≡ true = grind (arith, nat_tests) in
-      simp e at (step l)
-
-  pub digits_fail : i < length word → (is_digit (get_or word i 0) && leb next limit) ≡ false → None ≡ all
-  digits_fail l e = simp e at (step l)
-
-  pub digits_end : length word ≤ i → Some v ≡ all
-  digits_end l = sym (at_drop_all (digits_value limit v) word i l) ∙ inv
-
 digits_within : (limit v : ℕ) (word : List ℕ) → v ≤ limit → Within limit (digits_value limit v word)
 digits_within limit v [] h = h
 digits_within limit v (b ∷ word) h = elim (cases_Bool (is_digit b && leb (v * 10 + (b - 48)) limit)) [

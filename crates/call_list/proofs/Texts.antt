@@ -78,39 +78,6 @@ behind_none (bad_line n w) = refl
 pub list_start : (kept : List Listed) (text : List ℕ) → kept ≡ [] → behind (map located kept) (list_from 1 (slice_split is_break text)) ≡ list_of text
 list_start kept text e = ap (λ xs. behind (map located xs) (list_from 1 (slice_split is_break text))) e ∙ behind_none _ ∙ pieces_list 1 text
 
-behind-behind : (xs ys : List (ℕ × LineValue)) (rest : ListValue) → behind (xs ++ ys) rest ≡ behind xs (behind ys rest)
-behind-behind xs ys (calls more) = ap calls (append_assoc xs ys more)
-behind-behind xs ys (bad_line n w) = refl
-
--- a line that holds a call adds that call
-entry-line : (n : ℕ) (e : Entry) (rest : ListValue) → with_line n (value_of e) rest ≡ behind ((n, value_of e) ∷ []) rest
-entry-line n (Cycle bus pulse) rest = refl
-entry-line n (Telegram bytes) rest = refl
-entry-line n (Press b) rest = refl
-entry-line n (Record driver length percentage speed) rest = refl
-entry-line n (Order o) rest = refl
-
--- an entry is a call
-entry-call : (e : Entry) → is_call (value_of e) ≡ true
-entry-call (Cycle bus pulse) = refl
-entry-call (Telegram bytes) = refl
-entry-call (Press b) = refl
-entry-call (Record driver length percentage speed) = refl
-entry-call (Order o) = refl
-
--- a call that is kept behind those before it
-pub noted_call : (n : ℕ) (e : Entry) (value : LineValue) (before after : List Listed) → value ≡ value_of e →
-    after ≡ before ++ (record { line = n; entry = e }) ∷ [] → Noted n value before after (Ok tt)
-noted_call n e value before after is kept = λ rest.
-    ap (λ xs. behind (map located xs) rest) kept
-    ∙ ap (λ xs. behind xs rest) (map_push located before (record { line = n; entry = e }))
-    ∙ behind-behind (map located before) ((n, value_of e) ∷ []) rest
-    ∙ ap (behind (map located before)) (sym (entry-line n e rest) ∙ ap (λ v. with_line n v rest) (sym is))
-
--- a call that is kept takes memory
-pub call_takes : (e : Entry) (line : List ℕ) → line_of line ≡ value_of e → takes_memory line ≡ true
-call_takes e line is = or_right (has_bytes (verb_of (word_of line))) _ (ap is_call is ∙ entry-call e)
-
 -- a list of calls is no bad line
 abbrev HasCalls : ListValue → Type 0
 HasCalls (calls xs) = Unit {0}
