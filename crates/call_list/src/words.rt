@@ -18,7 +18,10 @@ pub(crate) fn split_word(text: &[u8]) -> (&[u8], &[u8])
     ensures word { result.0.now ≡ word_of text.now }
     ensures after { result.1.now ≡ after_word text.now }
 {
-    let start = text.iter().position(|b| !is_blank(*b)).unwrap_or(text.len());
+    let start = text
+        .iter()
+        .position(|b| !is_blank(*b))
+        .unwrap_or(text.len());
     let (_, from) = text.split_at(start);
     let end = from.iter().position(|b| is_blank(*b)).unwrap_or(from.len());
     from.split_at(end)

@@ -1,4 +1,4 @@
-use Rattle.std.proofs.Common.{◌≡◌, ◌<◌, ◌≤◌, length, vec_items, sym, ◌∙◌, arith, rules, tests}
+use Rattle.std.proofs.Common.{length, vec_items, sym, ◌∙◌, rules, tests}
 use Rattle.std.specs.List.{slice_split}
 use Rattle.std.proofs.lemmas.Result.{err_from_is_err_and}
 use Rattle.std.proofs.lemmas.List.{length_push}
@@ -36,8 +36,7 @@ pub loop-i-preserved : goal.loop-i-preserved
 loop-i-preserved c =
     let all = slice_split is_break c.args.text.now in
     let road = pieces_road {r = c.split.result} c.args.text.now _ _ c.loop-i.yielded_by c.split.ensures.rest c.split.ensures.done c.split.ensures.closure (cc) (cc) (λ x b q k. search (rules, tests)) in
-    let turn = piece_turn all road _ _ c.loop-i.yielded_by _ c.next.new.self (c.in-Some.i, c.in-Some.line) c.in-Some.is c.next.ensures.steps in
-    (
+    let turn = piece_turn all road _ _ c.loop-i.yielded_by _ c.next.new.self (c.in-Some.i, c.in-Some.line) c.in-Some.is c.next.ensures.steps in (
       list_more (vec_items c.loop-i.listed) (vec_items c.note_line.new.listed) (length c.loop-i.yielded) c.in-Some.i all c.in-Some.line.now turn.0 turn.1 turn.2
           _ c.loop-i.invariant.0 _ tt (length_push c.loop-i.yielded (c.in-Some.i, c.in-Some.line)) c.in_ok-note_line.ensures.noted,
       λ h. c.loop-i.invariant.1 (want_more (vec_items c.loop-i.listed) (vec_items c.note_line.new.listed) (length c.loop-i.yielded) c.in-Some.i all c.in-Some.line.now

@@ -1,5 +1,4 @@
-use Rattle.std.proofs.Common.{◌≡◌, None, arith, rules}
-use Rattle.call_list.specs.Numbers.{number_of}
+use Rattle.std.proofs.Common.{arith, rules}
 use Rattle.call_list.proofs.Decimals.{number_within, number_written}
 use Rattle.call_list.proofs.numbers.number.Goals as goal
 
