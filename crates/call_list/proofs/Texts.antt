@@ -100,40 +100,41 @@ or_more : (x y z : Bool) → (y || z) ≡ true → ((x || y) || z) ≡ true
 or_more true y z e = refl
 or_more false y z e = e
 
--- what is left from the piece n on gives the whole, one piece on and at a bad line
-module _ (kept more : List Listed) (n i : ℕ) (lines : List (List ℕ)) (line : List ℕ) (l : n < length lines) (e : i ≡ n) (f : line ≡ get_or lines n line) where
+-- what is left from the piece n on gives the whole, one piece on and at a bad line; m is the number of the line
+module _ (kept more : List Listed) (n m : ℕ) (lines : List (List ℕ)) (line : List ℕ) (l : n < length lines) (e : m ≡ n + 1) (f : line ≡ get_or lines n line) where
   module _ (whole : ListValue) (inv : behind (map located kept) (list_from (n + 1) (drop n lines)) ≡ whole) where
-    left : behind (map located kept) (with_line (i + 1) (line_of line) (list_from (i + 1 + 1) (drop (i + 1) lines))) ≡ whole
+    left : behind (map located kept) (with_line m (line_of line) (list_from (m + 1) (drop (n + 1) lines))) ≡ whole
     left =
-        ap (λ k. behind (map located kept) (with_line (k + 1) (line_of line) (list_from (k + 1 + 1) (drop (k + 1) lines)))) e
+        ap (λ k. behind (map located kept) (with_line k (line_of line) (list_from (k + 1) (drop (n + 1) lines)))) e
         ∙ ap (λ x. behind (map located kept) (with_line (n + 1) (line_of x) (list_from (n + 1 + 1) (drop (n + 1) lines)))) f
         ∙ sym (at_drop_more (λ ls. behind (map located kept) (list_from (n + 1) ls)) lines n line l) ∙ inv
 
-    pub list_more : (m : ℕ) (done : Unit) → m ≡ n + 1 → Noted (i + 1) (line_of line) kept more (Ok done) → behind (map located more) (list_from (m + 1) (drop m lines)) ≡ whole
-    list_more m done g noted =
-        ap (λ k. behind (map located more) (list_from (k + 1) (drop k lines))) (g ∙ sym (ap (λ k. k + 1) e))
-        ∙ noted (list_from (i + 1 + 1) (drop (i + 1) lines)) ∙ left
+    pub list_more : (next : ℕ) (done : Unit) → next ≡ n + 1 → Noted m (line_of line) kept more (Ok done) → behind (map located more) (list_from (next + 1) (drop next lines)) ≡ whole
+    list_more next done g noted =
+        ap (λ k. behind (map located more) (list_from (k + 1) (drop k lines))) g
+        ∙ ap (λ k. behind (map located more) (list_from (k + 1) (drop (n + 1) lines))) (sym e)
+        ∙ noted (list_from (m + 1) (drop (n + 1) lines)) ∙ left
 
   pub list_bad : (source : List ℕ) (fault : ListFault) → behind (map located kept) (list_from (n + 1) (drop n lines)) ≡ list_of source →
-      Noted (i + 1) (line_of line) kept more (Err fault) → ReadsList source (Err fault)
-  list_bad source (Line m w) inv noted =
-      sym (left (list_of source) inv) ∙ ap (λ v. behind (map located kept) (with_line (i + 1) v (list_from (i + 1 + 1) (drop (i + 1) lines)))) noted.1
+      Noted m (line_of line) kept more (Err fault) → ReadsList source (Err fault)
+  list_bad source (Line k w) inv noted =
+      sym (left (list_of source) inv) ∙ ap (λ v. behind (map located kept) (with_line m v (list_from (m + 1) (drop (n + 1) lines)))) noted.1
       ∙ ap (λ k. bad_line k w) (sym noted.0)
   list_bad source NoMemory inv noted = tt
 
   pub list_wants : (source : List ℕ) (fault : ListFault) → behind (map located kept) (list_from (n + 1) (drop n lines)) ≡ list_of source →
       (may_want (drop n lines) ≡ true → may_want (lines_of source) ≡ true) →
-      NotedOrWantsMemory (i + 1) line kept more (Err fault) → ReadsListOrWantsMemory source (Err fault)
-  list_wants source (Line m w) inv want noted = list_bad source (Line m w) inv noted
+      NotedOrWantsMemory m line kept more (Err fault) → ReadsListOrWantsMemory source (Err fault)
+  list_wants source (Line k w) inv want noted = list_bad source (Line k w) inv noted
   list_wants source NoMemory inv want noted =
       want (at_drop_more may_want lines n line l ∙ ap (λ x. may_want (x ∷ drop (n + 1) lines)) (sym f) ∙ or_left (takes_memory line) _ noted)
 
   -- where the pieces left may want memory, so may these and the one before them
-  pub want_more : (m : ℕ) (done : Unit) → m ≡ n + 1 → Noted (i + 1) (line_of line) kept more (Ok done) → may_want (drop m lines) ≡ true → may_want (drop n lines) ≡ true
-  want_more m done g noted h =
+  pub want_more : (next : ℕ) (done : Unit) → next ≡ n + 1 → Noted m (line_of line) kept more (Ok done) → may_want (drop next lines) ≡ true → may_want (drop n lines) ≡ true
+  want_more next done g noted h =
       at_drop_more may_want lines n line l ∙ ap (λ x. may_want (x ∷ drop (n + 1) lines)) (sym f)
       ∙ or_more (has_bytes (verb_of (word_of line))) (is_call (line_of line)) _
-      (noted_passes (i + 1) (line_of line) kept more (may_want (drop (n + 1) lines)) noted (ap (λ k. may_want (drop k lines)) (sym g) ∙ h))
+      (noted_passes m (line_of line) kept more (may_want (drop (n + 1) lines)) noted (ap (λ k. may_want (drop k lines)) (sym g) ∙ h))
 
 -- behind the last piece all calls are kept
 pub list_end : (kept : List Listed) (n : ℕ) (lines : List (List ℕ)) (source : List ℕ) → behind (map located kept) (list_from (n + 1) (drop n lines)) ≡ list_of source →

@@ -1,4 +1,4 @@
-use Rattle.std.proofs.Common.{length, vec_items, sym, ◌∙◌, rules, tests}
+use Rattle.std.proofs.Common.{length, vec_items, sym, ◌∙◌, arith, rules, tests}
 use Rattle.std.specs.List.{slice_split}
 use Rattle.std.proofs.lemmas.Result.{err_from_is_err_and}
 use Rattle.std.proofs.lemmas.List.{length_push}
@@ -19,7 +19,7 @@ returns-in_err-note_line-clause-reads c =
     let turn = piece_turn all road _ _ c.loop-i.yielded_by _ c.next.new.self (c.in-Some.i, c.in-Some.line) c.in-Some.is c.next.ensures.steps in
     let p = err_from_is_err_and c.from_residual.result c.from_residual.ensures.1 in
     rw (p.1, p.2)
-    (list_bad (vec_items c.loop-i.listed) (vec_items c.note_line.new.listed) (length c.loop-i.yielded) c.in-Some.i all c.in-Some.line.now turn.0 turn.1 turn.2
+    (list_bad (vec_items c.loop-i.listed) (vec_items c.note_line.new.listed) (length c.loop-i.yielded) _ all c.in-Some.line.now turn.0 (omega (arith, turn.1)) turn.2
     c.args.text.now c.in_err-note_line.field-0.0 c.loop-i.invariant.0 c.in_err-note_line.ensures.noted)
 
 pub returns-in_err-note_line-clause-value : goal.returns-in_err-note_line-clause-value
@@ -29,7 +29,7 @@ returns-in_err-note_line-clause-value c =
     let turn = piece_turn all road _ _ c.loop-i.yielded_by _ c.next.new.self (c.in-Some.i, c.in-Some.line) c.in-Some.is c.next.ensures.steps in
     let p = err_from_is_err_and c.from_residual.result c.from_residual.ensures.1 in
     rw (p.1, p.2)
-    (list_wants (vec_items c.loop-i.listed) (vec_items c.note_line.new.listed) (length c.loop-i.yielded) c.in-Some.i all c.in-Some.line.now turn.0 turn.1 turn.2
+    (list_wants (vec_items c.loop-i.listed) (vec_items c.note_line.new.listed) (length c.loop-i.yielded) _ all c.in-Some.line.now turn.0 (omega (arith, turn.1)) turn.2
     c.args.text.now c.in_err-note_line.field-0.0 c.loop-i.invariant.0 c.loop-i.invariant.1 c.in_err-note_line.ensures.value)
 
 pub loop-i-preserved : goal.loop-i-preserved
@@ -37,10 +37,10 @@ loop-i-preserved c =
     let all = slice_split is_break c.args.text.now in
     let road = pieces_road {r = c.split.result} c.args.text.now _ _ c.loop-i.yielded_by c.split.ensures.rest c.split.ensures.done c.split.ensures.closure (cc) (cc) (λ x b q k. search (rules, tests)) in
     let turn = piece_turn all road _ _ c.loop-i.yielded_by _ c.next.new.self (c.in-Some.i, c.in-Some.line) c.in-Some.is c.next.ensures.steps in (
-      list_more (vec_items c.loop-i.listed) (vec_items c.note_line.new.listed) (length c.loop-i.yielded) c.in-Some.i all c.in-Some.line.now turn.0 turn.1 turn.2
+      list_more (vec_items c.loop-i.listed) (vec_items c.note_line.new.listed) (length c.loop-i.yielded) _ all c.in-Some.line.now turn.0 (omega (arith, turn.1)) turn.2
           _ c.loop-i.invariant.0 _ tt (length_push c.loop-i.yielded (c.in-Some.i, c.in-Some.line)) c.in_ok-note_line.ensures.noted,
-      λ h. c.loop-i.invariant.1 (want_more (vec_items c.loop-i.listed) (vec_items c.note_line.new.listed) (length c.loop-i.yielded) c.in-Some.i all c.in-Some.line.now
-          turn.0 turn.1 turn.2 _ tt (length_push c.loop-i.yielded (c.in-Some.i, c.in-Some.line)) c.in_ok-note_line.ensures.noted h),
+      λ h. c.loop-i.invariant.1 (want_more (vec_items c.loop-i.listed) (vec_items c.note_line.new.listed) (length c.loop-i.yielded) _ all c.in-Some.line.now
+          turn.0 (omega (arith, turn.1)) turn.2 _ tt (length_push c.loop-i.yielded (c.in-Some.i, c.in-Some.line)) c.in_ok-note_line.ensures.noted h),
     )
 
 pub returns-clause-reads : goal.returns-clause-reads
