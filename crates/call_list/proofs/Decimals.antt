@@ -1,30 +1,10 @@
 -- Digits read one by one, and a number as it is commonly written.
-use Rattle.std.proofs.Common.{◌≡◌, ℕ, ◌+◌, ◌-◌, ◌*◌, ◌/◌, ◌%◌, ◌^◌, ◌<◌, ◌≤◌, true, false, cond, ◌&&◌, leb, List, [], ◌∷◌, ◌++◌, length, get_or, drop, Some, None, decimal, Option, sym, refl, ap, ◌∙◌, subst, inl, inr, arith}
+use Rattle.std.proofs.Common.{◌≡◌, ℕ, ◌+◌, ◌-◌, ◌*◌, ◌/◌, ◌%◌, ◌^◌, ◌<◌, ◌≤◌, true, false, ◌&&◌, leb, List, [], ◌∷◌, ◌++◌, Some, None, decimal, Option, sym, refl, ap, ◌∙◌, subst, inl, inr, arith}
 use Rattle.std.proofs.lemmas.Fmt.{decimal_by_steps, decimal_nonempty}
-use Rattle.std.proofs.lemmas.List.{at_drop_more, at_drop_all}
 use Rattle.std.proofs.lemmas.Bool.{cases_Bool}
 use Rattle.std.proofs.lemmas.Bool.Decides.{nat_tests}
 use Rattle.call_list.specs.Words.{is_empty}
 use Rattle.call_list.specs.Numbers.{is_digit, digits_value, number_of, Within, ReadsWritten}
-
--- one digit more, at a byte that ends the number, and at the end of the word
-module _ (limit v : ℕ) (word : List ℕ) (i : ℕ) (all : Option ℕ) (inv : digits_value limit v (drop i word) ≡ all) where
-  abbrev next : ℕ
-  next = v * 10 + (get_or word i 0 - 48)
-
-  step : i < length word → cond (is_digit (get_or word i 0) && leb next limit) (digits_value limit next (drop (i + 1) word)) None ≡ all
-  step l = sym (at_drop_more (digits_value limit v) word i 0 l) ∙ inv
-
-  pub digits_more : i < length word → 48 ≤ get_or word i 0 → get_or word i 0 ≤ 57 → next ≤ limit → digits_value limit next (drop (i + 1) word) ≡ all
-  digits_more l low high small =
-      let e : (is_digit (get_or word i 0) && leb next limit) ≡ true = grind (arith, nat_tests) in
-      simp e at (step l)
-
-  pub digits_fail : i < length word → (is_digit (get_or word i 0) && leb next limit) ≡ false → None ≡ all
-  digits_fail l e = simp e at (step l)
-
-  pub digits_end : length word ≤ i → Some v ≡ all
-  digits_end l = sym (at_drop_all (digits_value limit v) word i l) ∙ inv
 
 digits_within : (limit v : ℕ) (word : List ℕ) → v ≤ limit → Within limit (digits_value limit v word)
 digits_within limit v [] h = h

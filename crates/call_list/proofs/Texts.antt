@@ -1,86 +1,80 @@
--- A text line by line, and the calls kept so far.
-use Rattle.std.proofs.Common.{◌≡◌, ℕ, suc, ◌+◌, ◌<◌, Bool, true, false, ◌&&◌, ◌||◌, List, [], ◌∷◌, ◌++◌, map, length, take, drop, Ok, Err, sym, refl, ap, ◌∙◌, subst, inl, inr, append_assoc, append-nil, arith, length-drop}
-use Rattle.std.proofs.lemmas.Bool.{cases_Bool, or_left, or_right}
-use Rattle.std.proofs.lemmas.List.{map_push, nil_from_length}
-use Rattle.std.specs.List.{position_or_len}
+-- A text piece by piece, and the calls kept so far.
+use Rattle.std.proofs.Common.{◌≡◌, ℕ, ◌+◌, ◌<◌, ◌≤◌, Bool, true, false, ◌&&◌, ◌||◌, ◌⊎◌, List, [], ◌∷◌, ◌++◌, map, length, get_or, drop, Ok, Err, Some, None, Option, Bor, sym, refl, ap, ◌∙◌, subst, inl, inr, append-nil, arith}
+use Rattle.std.proofs.lemmas.Bool.{cases_Bool, or_left}
+use Rattle.std.proofs.lemmas.List.{at_drop_more, at_drop_all}
+use Rattle.std.proofs.lemmas.List.FromFn.{length-enumerate_from, get_or-enumerate_from}
+use Rattle.std.proofs.lemmas.List.Splits.{slice_split-cons_yes, slice_split-cons_no}
+use Rattle.std.proofs.lemmas.Iterator.{YieldsList}
+use Rattle.std.proofs.lemmas.Iterator.Consumers.{YieldsList-at, YieldsList-from_enumerate, YieldsList-turn, YieldsList-end}
+use Rattle.std.proofs.lemmas.Iterator.Splits.{YieldsList-from_slice_split}
+use Rattle.std.specs.Fn.{CalledAt}
+use Rattle.std.specs.Iterator.{Yields}
+use Rattle.std.specs.Iterator.Adapters.{enumerate_source, enumerate_count, enumerate_steps}
+use Rattle.std.specs.Slice.Iter.{split_rest, split_done, split_callee, split_steps}
+use denote.Param.Members.{Mut}
+use Rattle.std.specs.List.{slice_split, onto_first, enumerate_from}
 use Rattle.call_list.specs.Words.{is_break, word_of}
-use Rattle.call_list.specs.Lines.{LineValue, passed, cycle, telegram, press, draft, order, wrong, verb_of, line_of, value_of, has_bytes}
-use Rattle.call_list.specs.Lists.{on_first, lines_of, first_line, after_line, ListValue, calls, bad_line, behind, with_line, list_from, list_of, located, is_call, is_passed, takes_memory, may_want, Noted, NotedOrWantsMemory, ReadsList, ReadsListOrWantsMemory}
-use Rattle.call_list.specs.declared.entry.Entry.{Entry}
-use Rattle.call_list.specs.declared.entry.Entry.TheVariants.{Cycle, Telegram, Press, Record, Order}
+use Rattle.call_list.specs.Lines.{LineValue, passed, cycle, telegram, press, draft, order, wrong, verb_of, line_of, has_bytes}
+use Rattle.call_list.specs.Lists.{lines_of, ListValue, calls, bad_line, behind, with_line, list_from, list_of, located, is_call, is_passed, takes_memory, may_want, Noted, NotedOrWantsMemory, ReadsList, ReadsListOrWantsMemory}
 use Rattle.call_list.specs.declared.entry.Wrong.{Wrong}
 use Rattle.call_list.specs.declared.listed.Listed.{Listed}
 use Rattle.call_list.specs.declared.listed.ListFault.{ListFault}
 use Rattle.call_list.specs.declared.listed.ListFault.TheVariants.{Line, NoMemory}
 
--- one byte more in front of a line
-module _ (b : ℕ) (text : List ℕ) (e : is_break b ≡ false) where
-  place-more : position_or_len is_break (b ∷ text) ≡ suc (position_or_len is_break text)
-  place-more =
-      let f : 1 + position_or_len is_break text ≡ suc (position_or_len is_break text) = omega arith in
-      simp (e, f)
+-- one byte more in front of the first piece, where the last piece is empty
+onto_last : (b : ℕ) (lines : List (List ℕ)) →
+    (onto_first b (lines ++ [] ∷ []) ≡ onto_first b lines) ⊎ (onto_first b (lines ++ [] ∷ []) ≡ onto_first b lines ++ [] ∷ [])
+onto_last b [] = inl refl
+onto_last b (line ∷ lines) = inr refl
 
-  lines-more : lines_of (b ∷ text) ≡ on_first b (lines_of text)
-  lines-more = simp e
-
-  first-more : first_line (b ∷ text) ≡ b ∷ first_line text
-  first-more = ap (λ n. take n (b ∷ text)) place-more
-
-  after-more : after_line (b ∷ text) ≡ after_line text
-  after-more = ap (λ n. drop (suc n) (b ∷ text)) place-more
-
--- a text that is not empty is its first line and the lines after it
-pub lines_split : (text : List ℕ) → 0 < length text → lines_of text ≡ first_line text ∷ lines_of (after_line text)
-lines_split [] l = absurd (omega arith)
-lines_split (b ∷ []) l = elim (cases_Bool (is_break b)) [
-  | inl e ↦ simp e
+-- the pieces between line breaks are the lines, or these and an empty piece more
+pieces : (text : List ℕ) → (slice_split is_break text ≡ lines_of text) ⊎ (slice_split is_break text ≡ lines_of text ++ [] ∷ [])
+pieces [] = inr refl
+pieces (b ∷ text) = elim (cases_Bool (is_break b)) [
+  | inl e ↦
+      let f : lines_of (b ∷ text) ≡ [] ∷ lines_of text = simp e in elim (pieces text) [
+        | inl h ↦ inl (slice_split-cons_yes is_break b text e ∙ ap (λ ls. [] ∷ ls) h ∙ sym f)
+        | inr h ↦ inr (slice_split-cons_yes is_break b text e ∙ ap (λ ls. [] ∷ ls) h ∙ sym (ap (λ ls. ls ++ [] ∷ []) f))
+      ]
   | inr e ↦
-      lines-more b [] e ∙ ap (λ x. x ∷ lines_of (after_line [])) (sym (first-more b [] e))
-      ∙ ap (λ x. first_line (b ∷ []) ∷ lines_of x) (sym (after-more b [] e))
-]
-lines_split (b ∷ c ∷ text) l = elim (cases_Bool (is_break b)) [
-  | inl e ↦ simp e
-  | inr e ↦
-      lines-more b (c ∷ text) e ∙ ap (on_first b) (lines_split (c ∷ text) (omega arith))
-      ∙ ap (λ x. x ∷ lines_of (after_line (c ∷ text))) (sym (first-more b (c ∷ text) e))
-      ∙ ap (λ x. first_line (b ∷ c ∷ text) ∷ lines_of x) (sym (after-more b (c ∷ text) e))
+      let f : lines_of (b ∷ text) ≡ onto_first b (lines_of text) = simp e in elim (pieces text) [
+        | inl h ↦ inl (slice_split-cons_no is_break b text e ∙ ap (onto_first b) h ∙ sym f)
+        | inr h ↦
+            let g = slice_split-cons_no is_break b text e ∙ ap (onto_first b) h in elim (onto_last b (lines_of text)) [
+              | inl k ↦ inl (g ∙ k ∙ sym f)
+              | inr k ↦ inr (g ∙ k ∙ sym (ap (λ ls. ls ++ [] ∷ []) f))
+            ]
+      ]
 ]
 
-pub after_line_shorter : (text : List ℕ) → 0 < length text → length (after_line text) < length text
-after_line_shorter text l = rw (length-drop (suc (position_or_len is_break text)) text) (omega arith)
+-- a blank line behind the last adds nothing
+blank_behind : (n : ℕ) (lines : List (List ℕ)) → list_from n (lines ++ [] ∷ []) ≡ list_from n lines
+blank_behind n [] = refl
+blank_behind n (line ∷ lines) = ap (with_line n (line_of line)) (blank_behind (n + 1) lines)
 
-behind-behind : (xs ys : List (ℕ × LineValue)) (rest : ListValue) → behind (xs ++ ys) rest ≡ behind xs (behind ys rest)
-behind-behind xs ys (calls more) = ap calls (append_assoc xs ys more)
-behind-behind xs ys (bad_line n w) = refl
+blank_wants : (lines : List (List ℕ)) → may_want (lines ++ [] ∷ []) ≡ may_want lines
+blank_wants [] = refl
+blank_wants (line ∷ lines) = ap (λ b. takes_memory line || (is_passed (line_of line) && b)) (blank_wants lines)
 
--- a line that holds a call adds that call
-entry-line : (n : ℕ) (e : Entry) (rest : ListValue) → with_line n (value_of e) rest ≡ behind ((n, value_of e) ∷ []) rest
-entry-line n (Cycle bus pulse) rest = refl
-entry-line n (Telegram bytes) rest = refl
-entry-line n (Press b) rest = refl
-entry-line n (Record driver length percentage speed) rest = refl
-entry-line n (Order o) rest = refl
+pieces_list : (n : ℕ) (text : List ℕ) → list_from n (slice_split is_break text) ≡ list_from n (lines_of text)
+pieces_list n text = elim (pieces text) [
+  | inl h ↦ ap (list_from n) h
+  | inr h ↦ ap (list_from n) h ∙ blank_behind n (lines_of text)
+]
 
--- an entry is a call
-entry-call : (e : Entry) → is_call (value_of e) ≡ true
-entry-call (Cycle bus pulse) = refl
-entry-call (Telegram bytes) = refl
-entry-call (Press b) = refl
-entry-call (Record driver length percentage speed) = refl
-entry-call (Order o) = refl
+pub pieces_want : (text : List ℕ) → may_want (slice_split is_break text) ≡ may_want (lines_of text)
+pieces_want text = elim (pieces text) [
+  | inl h ↦ ap may_want h
+  | inr h ↦ ap may_want h ∙ blank_wants (lines_of text)
+]
 
--- a call that is kept behind those before it
-pub noted_call : (n : ℕ) (e : Entry) (value : LineValue) (before after : List Listed) → value ≡ value_of e →
-    after ≡ before ++ (record { line = n; entry = e }) ∷ [] → Noted n value before after (Ok tt)
-noted_call n e value before after is kept = λ rest.
-    ap (λ xs. behind (map located xs) rest) kept
-    ∙ ap (λ xs. behind xs rest) (map_push located before (record { line = n; entry = e }))
-    ∙ behind-behind (map located before) ((n, value_of e) ∷ []) rest
-    ∙ ap (behind (map located before)) (sym (entry-line n e rest) ∙ ap (λ v. with_line n v rest) (sym is))
+behind_none : (v : ListValue) → behind [] v ≡ v
+behind_none (calls more) = refl
+behind_none (bad_line n w) = refl
 
--- a call that is kept takes memory
-pub call_takes : (e : Entry) (line : List ℕ) → line_of line ≡ value_of e → takes_memory line ≡ true
-call_takes e line is = or_right (has_bytes (verb_of (word_of line))) _ (ap is_call is ∙ entry-call e)
+-- before the first piece nothing is kept
+pub list_start : (kept : List Listed) (text : List ℕ) → kept ≡ [] → behind (map located kept) (list_from 1 (slice_split is_break text)) ≡ list_of text
+list_start kept text e = ap (λ xs. behind (map located xs) (list_from 1 (slice_split is_break text))) e ∙ behind_none _ ∙ pieces_list 1 text
 
 -- a list of calls is no bad line
 abbrev HasCalls : ListValue → Type 0
@@ -106,46 +100,69 @@ or_more : (x y z : Bool) → (y || z) ≡ true → ((x || y) || z) ≡ true
 or_more true y z e = refl
 or_more false y z e = e
 
--- where the lines left may want memory, so may these and the line before them
-pub want_more : (text : List ℕ) (n : ℕ) (before after : List Listed) (line rest : List ℕ) (done : Unit) →
-    0 < length text → line ≡ first_line text → rest ≡ after_line text → Noted n (line_of line) before after (Ok done) →
-    may_want (lines_of rest) ≡ true → may_want (lines_of text) ≡ true
-want_more text n before after line rest done l e f noted h =
-    ap may_want (lines_split text l ∙ ap (λ x. x ∷ lines_of (after_line text)) (sym e) ∙ ap (λ x. line ∷ lines_of x) (sym f))
-    ∙ or_more (has_bytes (verb_of (word_of line))) (is_call (line_of line)) _ (noted_passes n (line_of line) before after (may_want (lines_of rest)) noted h)
+-- what is left from the piece n on gives the whole, one piece on and at a bad line; m is the number of the line
+module _ (kept more : List Listed) (n m : ℕ) (lines : List (List ℕ)) (line : List ℕ) (l : n < length lines) (e : m ≡ n + 1) (f : line ≡ get_or lines n line) where
+  module _ (whole : ListValue) (inv : behind (map located kept) (list_from (n + 1) (drop n lines)) ≡ whole) where
+    left : behind (map located kept) (with_line m (line_of line) (list_from (m + 1) (drop (n + 1) lines))) ≡ whole
+    left =
+        ap (λ k. behind (map located kept) (with_line k (line_of line) (list_from (k + 1) (drop (n + 1) lines)))) e
+        ∙ ap (λ x. behind (map located kept) (with_line (n + 1) (line_of x) (list_from (n + 1 + 1) (drop (n + 1) lines)))) f
+        ∙ sym (at_drop_more (λ ls. behind (map located kept) (list_from (n + 1) ls)) lines n line l) ∙ inv
 
--- a line that takes memory may want it
-want_here : (text line : List ℕ) → 0 < length text → line ≡ first_line text → takes_memory line ≡ true → may_want (lines_of text) ≡ true
-want_here text line l e takes =
-    ap may_want (lines_split text l ∙ ap (λ x. x ∷ lines_of (after_line text)) (sym e)) ∙ or_left (takes_memory line) _ takes
+    pub list_more : (next : ℕ) (done : Unit) → next ≡ n + 1 → Noted m (line_of line) kept more (Ok done) → behind (map located more) (list_from (next + 1) (drop next lines)) ≡ whole
+    list_more next done g noted =
+        ap (λ k. behind (map located more) (list_from (k + 1) (drop k lines))) g
+        ∙ ap (λ k. behind (map located more) (list_from (k + 1) (drop (n + 1) lines))) (sym e)
+        ∙ noted (list_from (m + 1) (drop (n + 1) lines)) ∙ left
 
--- what is left gives the whole, one line on, at a bad line and at the end
-module _ (kept : List Listed) (n : ℕ) (text source : List ℕ) (inv : behind (map located kept) (list_from n (lines_of text)) ≡ list_of source) where
-  step : 0 < length text → behind (map located kept) (with_line n (line_of (first_line text)) (list_from (n + 1) (lines_of (after_line text)))) ≡ list_of source
-  step l = sym (ap (λ ls. behind (map located kept) (list_from n ls)) (lines_split text l)) ∙ inv
-
-  pub list_more : (more : List Listed) (line rest : List ℕ) (done : Unit) → 0 < length text → line ≡ first_line text → rest ≡ after_line text →
-      Noted n (line_of line) kept more (Ok done) → behind (map located more) (list_from (n + 1) (lines_of rest)) ≡ list_of source
-  list_more more line rest done l e f noted =
-      noted (list_from (n + 1) (lines_of rest))
-      ∙ ap (λ x. behind (map located kept) (with_line n (line_of x) (list_from (n + 1) (lines_of rest)))) e
-      ∙ ap (λ x. behind (map located kept) (with_line n (line_of (first_line text)) (list_from (n + 1) (lines_of x)))) f
-      ∙ step l
-
-  pub list_bad : (more : List Listed) (line : List ℕ) (fault : ListFault) → 0 < length text → line ≡ first_line text →
-      Noted n (line_of line) kept more (Err fault) → ReadsList source (Err fault)
-  list_bad more line (Line m w) l e noted =
-      sym (step l) ∙ ap (λ v. behind (map located kept) (with_line n v (list_from (n + 1) (lines_of (after_line text))))) (ap line_of (sym e) ∙ noted.1)
+  pub list_bad : (source : List ℕ) (fault : ListFault) → behind (map located kept) (list_from (n + 1) (drop n lines)) ≡ list_of source →
+      Noted m (line_of line) kept more (Err fault) → ReadsList source (Err fault)
+  list_bad source (Line k w) inv noted =
+      sym (left (list_of source) inv) ∙ ap (λ v. behind (map located kept) (with_line m v (list_from (m + 1) (drop (n + 1) lines)))) noted.1
       ∙ ap (λ k. bad_line k w) (sym noted.0)
-  list_bad more line NoMemory l e noted = tt
+  list_bad source NoMemory inv noted = tt
 
-  pub list_wants : (more : List Listed) (line : List ℕ) (fault : ListFault) → 0 < length text → line ≡ first_line text →
-      (may_want (lines_of text) ≡ true → may_want (lines_of source) ≡ true) →
-      NotedOrWantsMemory n line kept more (Err fault) → ReadsListOrWantsMemory source (Err fault)
-  list_wants more line (Line m w) l e want noted = list_bad more line (Line m w) l e noted
-  list_wants more line NoMemory l e want noted = want (want_here text line l e noted)
+  pub list_wants : (source : List ℕ) (fault : ListFault) → behind (map located kept) (list_from (n + 1) (drop n lines)) ≡ list_of source →
+      (may_want (drop n lines) ≡ true → may_want (lines_of source) ≡ true) →
+      NotedOrWantsMemory m line kept more (Err fault) → ReadsListOrWantsMemory source (Err fault)
+  list_wants source (Line k w) inv want noted = list_bad source (Line k w) inv noted
+  list_wants source NoMemory inv want noted =
+      want (at_drop_more may_want lines n line l ∙ ap (λ x. may_want (x ∷ drop (n + 1) lines)) (sym f) ∙ or_left (takes_memory line) _ noted)
 
-  pub list_end : length text ≡ 0 → list_of source ≡ calls (map located kept)
-  list_end l =
-      let e : text ≡ [] = nil_from_length text l in
-      sym inv ∙ ap (λ t. behind (map located kept) (list_from n (lines_of t))) e ∙ ap calls (append-nil (map located kept))
+  -- where the pieces left may want memory, so may these and the one before them
+  pub want_more : (next : ℕ) (done : Unit) → next ≡ n + 1 → Noted m (line_of line) kept more (Ok done) → may_want (drop next lines) ≡ true → may_want (drop n lines) ≡ true
+  want_more next done g noted h =
+      at_drop_more may_want lines n line l ∙ ap (λ x. may_want (x ∷ drop (n + 1) lines)) (sym f)
+      ∙ or_more (has_bytes (verb_of (word_of line))) (is_call (line_of line)) _
+      (noted_passes m (line_of line) kept more (may_want (drop (n + 1) lines)) noted (ap (λ k. may_want (drop k lines)) (sym g) ∙ h))
+
+-- behind the last piece all calls are kept
+pub list_end : (kept : List Listed) (n : ℕ) (lines : List (List ℕ)) (source : List ℕ) → behind (map located kept) (list_from (n + 1) (drop n lines)) ≡ list_of source →
+    length lines ≤ n → list_of source ≡ calls (map located kept)
+list_end kept n lines source inv l =
+    sym inv ∙ at_drop_all (λ ls. behind (map located kept) (list_from (n + 1) ls)) lines n l ∙ ap calls (append-nil (map located kept))
+
+-- the loop goes over the pieces with their indices
+pub pieces_road : {F : Type 0} {g : Mut F (Bor ℕ × Unit {0}) Bool} {f : F} {s r : _} (text : List ℕ) (xs : List (ℕ × Bor (List ℕ))) (t : _) →
+    Yields (enumerate_steps (split_steps g)) s xs t → split_rest r ≡ text → split_done r ≡ false → split_callee r ≡ f → enumerate_source s ≡ r → enumerate_count s ≡ 0 →
+    ((x : ℕ) (b : Bool) (q : F) → CalledAt g f x b q → (q ≡ f) × (b ≡ is_break x)) →
+    YieldsList {B = ℕ × List ℕ} (enumerate_steps (split_steps g)) (λ p. (p.0, p.1.now)) s (enumerate_from 0 (slice_split is_break text))
+pieces_road {g = g} text xs t y rest done callee source count tests =
+    YieldsList-from_enumerate (YieldsList-at source (YieldsList-from_slice_split g is_break text rest done callee tests)) count
+
+-- one turn of it: the index and the piece
+pub piece_turn : {S : Type 0} {steps : S → Option (ℕ × Bor (List ℕ)) → S → Type 0} {s : S} (all : List (List ℕ)) →
+    YieldsList {B = ℕ × List ℕ} steps (λ p. (p.0, p.1.now)) s (enumerate_from 0 all) → (xs : List (ℕ × Bor (List ℕ))) (t : S) → Yields steps s xs t →
+    (r : Option (ℕ × Bor (List ℕ))) (u : S) (x : ℕ × Bor (List ℕ)) → r ≡ Some x → steps t r u →
+    (length xs < length all) × (x.0 ≡ length xs) × (x.1.now ≡ get_or all (length xs) x.1.now)
+piece_turn all road xs t y r u x is step =
+    let turn = YieldsList-turn road xs t y r u x is step in
+    let m : length xs < length all = omega (arith, turn.0, length-enumerate_from 0 all) in
+    let f = turn.1 ∙ get_or-enumerate_from 0 all (length xs) (x.0, x.1.now) m in
+    (m, omega (arith, ap (λ p. p.0) f), ap (λ p. p.1) f)
+
+-- its end
+pub piece_end : {S : Type 0} {steps : S → Option (ℕ × Bor (List ℕ)) → S → Type 0} {s : S} (all : List (List ℕ)) →
+    YieldsList {B = ℕ × List ℕ} steps (λ p. (p.0, p.1.now)) s (enumerate_from 0 all) → (xs : List (ℕ × Bor (List ℕ))) (t : S) → Yields steps s xs t →
+    (r : Option (ℕ × Bor (List ℕ))) (u : S) → r ≡ None → steps t r u → length all ≤ length xs
+piece_end all road xs t y r u is step = omega (arith, (YieldsList-end road xs t y r u is step).1, length-enumerate_from 0 all)

@@ -1,6 +1,6 @@
 -- What a whole call list says.
-use Rattle.std.specs.Prelude.{◌≡◌, ℕ, suc, ◌+◌, Bool, true, false, cond, ◌&&◌, ◌||◌, List, [], ◌∷◌, ◌++◌, map, take, drop, Ok, Err, vec_items, Result, Vec}
-use Rattle.std.specs.List.{position_or_len}
+use Rattle.std.specs.Prelude.{◌≡◌, ℕ, ◌+◌, Bool, true, false, cond, ◌&&◌, ◌||◌, List, [], ◌∷◌, ◌++◌, map, Ok, Err, vec_items, Result, Vec}
+use Rattle.std.specs.List.{onto_first}
 use Rattle.std.specs.declared.alloc.Global.{Global}
 use Rattle.call_list.specs.Words.{is_break, word_of}
 use Rattle.call_list.specs.Lines.{LineValue, passed, cycle, telegram, press, draft, order, wrong, verb_of, line_of, value_of, has_bytes}
@@ -9,21 +9,10 @@ use Rattle.call_list.specs.declared.listed.Listed.{Listed}
 use Rattle.call_list.specs.declared.listed.ListFault.{ListFault}
 use Rattle.call_list.specs.declared.listed.ListFault.TheVariants.{Line, NoMemory}
 
--- one byte more in front of the first line
-abbrev pub on_first : ℕ → List (List ℕ) → List (List ℕ)
-on_first b [] = (b ∷ []) ∷ []
-on_first b (line ∷ lines) = (b ∷ line) ∷ lines
-
 -- the lines of a text; a line break at the very end begins no further line
 abbrev pub lines_of : List ℕ → List (List ℕ)
 lines_of [] = []
-lines_of (b ∷ text) = cond (is_break b) ([] ∷ lines_of text) (on_first b (lines_of text))
-
-abbrev pub first_line : List ℕ → List ℕ
-first_line text = take (position_or_len is_break text) text
-
-abbrev pub after_line : List ℕ → List ℕ
-after_line text = drop (suc (position_or_len is_break text)) text
+lines_of (b ∷ text) = cond (is_break b) ([] ∷ lines_of text) (onto_first b (lines_of text))
 
 -- the calls with the numbers of their lines, or the first bad line
 pub data ListValue : Type 0 where

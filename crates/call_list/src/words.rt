@@ -10,23 +10,7 @@ use crate::entry::Wrong;
 fn is_blank(b: u8) -> bool
     ensures { result ≡ is_blank b }
 {
-    b == b' ' || b == b'\t' || b == b'\r'
-}
-
-fn word_start(text: &[u8]) -> usize
-    ensures value { result ≡ position_or_len is_printing text.now }
-    ensures within { result ≤ length text.now }
-{
-    text.iter()
-        .position(|b| !is_blank(*b))
-        .unwrap_or(text.len())
-}
-
-fn word_end(text: &[u8]) -> usize
-    ensures value { result ≡ position_or_len is_blank text.now }
-    ensures within { result ≤ length text.now }
-{
-    text.iter().position(|b| is_blank(*b)).unwrap_or(text.len())
+    matches!(b, b' ' | b'\t' | b'\r')
 }
 
 // The first word of a text, empty where there is none, and what stands after it.
@@ -34,8 +18,13 @@ pub(crate) fn split_word(text: &[u8]) -> (&[u8], &[u8])
     ensures word { result.0.now ≡ word_of text.now }
     ensures after { result.1.now ≡ after_word text.now }
 {
-    let (_, from) = text.split_at(word_start(text));
-    from.split_at(word_end(from))
+    let start = text
+        .iter()
+        .position(|b| !is_blank(*b))
+        .unwrap_or(text.len());
+    let (_, from) = text.split_at(start);
+    let end = from.iter().position(|b| is_blank(*b)).unwrap_or(from.len());
+    from.split_at(end)
 }
 
 // The next word of a text and what stands after it, where a word is due.

@@ -1,45 +1,58 @@
-use Rattle.std.proofs.Common.{◌≡◌, ◌<◌, length, vec_items, ap, arith, rules}
+use Rattle.std.proofs.Common.{length, vec_items, sym, ◌∙◌, arith, rules, tests}
+use Rattle.std.specs.List.{slice_split}
 use Rattle.std.proofs.lemmas.Result.{err_from_is_err_and}
-use Rattle.call_list.proofs.Texts.{after_line_shorter, want_more, list_more, list_bad, list_wants, list_end}
+use Rattle.std.proofs.lemmas.List.{length_push}
+use Rattle.call_list.specs.Words.{is_break}
+use Rattle.call_list.proofs.Texts.{pieces_want, list_start, list_more, list_bad, list_wants, want_more, list_end, pieces_road, piece_turn, piece_end}
 use Rattle.call_list.proofs.list.read_list.Goals as goal
+
+pub loop-i-init : goal.loop-i-init
+loop-i-init c = (
+  list_start (vec_items c.new-listed.result) c.args.text.now (search rules),
+  λ h. sym (pieces_want c.args.text.now) ∙ h,
+)
 
 pub returns-in_err-note_line-clause-reads : goal.returns-in_err-note_line-clause-reads
 returns-in_err-note_line-clause-reads c =
-    let l : 0 < length c.loop-rest.rest.now = search rules in
+    let all = slice_split is_break c.args.text.now in
+    let road = pieces_road {r = c.split.result} c.args.text.now _ _ c.loop-i.yielded_by c.split.ensures.rest c.split.ensures.done c.split.ensures.closure (cc) (cc) (λ x b q k. search (rules, tests)) in
+    let turn = piece_turn all road _ _ c.loop-i.yielded_by _ c.next.new.self (c.in-Some.i, c.in-Some.line) c.in-Some.is c.next.ensures.steps in
     let p = err_from_is_err_and c.from_residual.result c.from_residual.ensures.1 in
     rw (p.1, p.2)
-    (list_bad (vec_items c.loop-rest.listed) c.loop-rest.number c.loop-rest.rest.now c.args.text.now c.loop-rest.invariant.0
-    (vec_items c.note_line.new.listed) c.split_line.result.0.now c.in_err-note_line.field-0.0 l c.split_line.ensures.line c.in_err-note_line.ensures.noted)
+    (list_bad (vec_items c.loop-i.listed) (vec_items c.note_line.new.listed) (length c.loop-i.yielded) _ all c.in-Some.line.now turn.0 (omega (arith, turn.1)) turn.2
+    c.args.text.now c.in_err-note_line.field-0.0 c.loop-i.invariant.0 c.in_err-note_line.ensures.noted)
 
 pub returns-in_err-note_line-clause-value : goal.returns-in_err-note_line-clause-value
 returns-in_err-note_line-clause-value c =
-    let l : 0 < length c.loop-rest.rest.now = search rules in
+    let all = slice_split is_break c.args.text.now in
+    let road = pieces_road {r = c.split.result} c.args.text.now _ _ c.loop-i.yielded_by c.split.ensures.rest c.split.ensures.done c.split.ensures.closure (cc) (cc) (λ x b q k. search (rules, tests)) in
+    let turn = piece_turn all road _ _ c.loop-i.yielded_by _ c.next.new.self (c.in-Some.i, c.in-Some.line) c.in-Some.is c.next.ensures.steps in
     let p = err_from_is_err_and c.from_residual.result c.from_residual.ensures.1 in
     rw (p.1, p.2)
-    (list_wants (vec_items c.loop-rest.listed) c.loop-rest.number c.loop-rest.rest.now c.args.text.now c.loop-rest.invariant.0
-    (vec_items c.note_line.new.listed) c.split_line.result.0.now c.in_err-note_line.field-0.0 l c.split_line.ensures.line c.loop-rest.invariant.2 c.in_err-note_line.ensures.value)
+    (list_wants (vec_items c.loop-i.listed) (vec_items c.note_line.new.listed) (length c.loop-i.yielded) _ all c.in-Some.line.now turn.0 (omega (arith, turn.1)) turn.2
+    c.args.text.now c.in_err-note_line.field-0.0 c.loop-i.invariant.0 c.loop-i.invariant.1 c.in_err-note_line.ensures.value)
 
-pub loop-rest-smaller : goal.loop-rest-smaller
-loop-rest-smaller c =
-    let l : 0 < length c.loop-rest.rest.now = search rules in
-    omega (arith, after_line_shorter c.loop-rest.rest.now l, ap length c.split_line.ensures.after)
-
-pub loop-rest-preserved : goal.loop-rest-preserved
-loop-rest-preserved c =
-    let l : 0 < length c.loop-rest.rest.now = search rules in (
-      list_more (vec_items c.loop-rest.listed) c.loop-rest.number c.loop-rest.rest.now c.args.text.now c.loop-rest.invariant.0
-          (vec_items c.note_line.new.listed) c.split_line.result.0.now c.split_line.result.1.now tt l c.split_line.ensures.line c.split_line.ensures.after c.in_ok-note_line.ensures.noted,
-      omega (arith, after_line_shorter c.loop-rest.rest.now l, ap length c.split_line.ensures.after, c.loop-rest.invariant.1),
-      λ more. c.loop-rest.invariant.2 (want_more c.loop-rest.rest.now c.loop-rest.number (vec_items c.loop-rest.listed) (vec_items c.note_line.new.listed)
-          c.split_line.result.0.now c.split_line.result.1.now tt l c.split_line.ensures.line c.split_line.ensures.after c.in_ok-note_line.ensures.noted more),
+pub loop-i-preserved : goal.loop-i-preserved
+loop-i-preserved c =
+    let all = slice_split is_break c.args.text.now in
+    let road = pieces_road {r = c.split.result} c.args.text.now _ _ c.loop-i.yielded_by c.split.ensures.rest c.split.ensures.done c.split.ensures.closure (cc) (cc) (λ x b q k. search (rules, tests)) in
+    let turn = piece_turn all road _ _ c.loop-i.yielded_by _ c.next.new.self (c.in-Some.i, c.in-Some.line) c.in-Some.is c.next.ensures.steps in (
+      list_more (vec_items c.loop-i.listed) (vec_items c.note_line.new.listed) (length c.loop-i.yielded) _ all c.in-Some.line.now turn.0 (omega (arith, turn.1)) turn.2
+          _ c.loop-i.invariant.0 _ tt (length_push c.loop-i.yielded (c.in-Some.i, c.in-Some.line)) c.in_ok-note_line.ensures.noted,
+      λ h. c.loop-i.invariant.1 (want_more (vec_items c.loop-i.listed) (vec_items c.note_line.new.listed) (length c.loop-i.yielded) _ all c.in-Some.line.now
+          turn.0 (omega (arith, turn.1)) turn.2 _ tt (length_push c.loop-i.yielded (c.in-Some.i, c.in-Some.line)) c.in_ok-note_line.ensures.noted h),
     )
 
 pub returns-clause-reads : goal.returns-clause-reads
 returns-clause-reads c =
-    let l : length c.loop-rest.rest.now ≡ 0 = search rules in
-    list_end (vec_items c.loop-rest.listed) c.loop-rest.number c.loop-rest.rest.now c.args.text.now c.loop-rest.invariant.0 l
+    let all = slice_split is_break c.args.text.now in
+    let road = pieces_road {r = c.split.result} c.args.text.now _ _ c.loop-i.yielded_by c.split.ensures.rest c.split.ensures.done c.split.ensures.closure (cc) (cc) (λ x b q k. search (rules, tests)) in
+    let e = piece_end all road _ _ c.loop-i.yielded_by _ c.next.new.self c.in-None.is c.next.ensures.steps in
+    list_end (vec_items c.loop-i.listed) (length c.loop-i.yielded) all c.args.text.now c.loop-i.invariant.0 e
 
 pub returns-clause-value : goal.returns-clause-value
 returns-clause-value c =
-    let l : length c.loop-rest.rest.now ≡ 0 = search rules in
-    list_end (vec_items c.loop-rest.listed) c.loop-rest.number c.loop-rest.rest.now c.args.text.now c.loop-rest.invariant.0 l
+    let all = slice_split is_break c.args.text.now in
+    let road = pieces_road {r = c.split.result} c.args.text.now _ _ c.loop-i.yielded_by c.split.ensures.rest c.split.ensures.done c.split.ensures.closure (cc) (cc) (λ x b q k. search (rules, tests)) in
+    let e = piece_end all road _ _ c.loop-i.yielded_by _ c.next.new.self c.in-None.is c.next.ensures.steps in
+    list_end (vec_items c.loop-i.listed) (length c.loop-i.yielded) all c.args.text.now c.loop-i.invariant.0 e

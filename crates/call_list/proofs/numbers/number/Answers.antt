@@ -1,14 +1,12 @@
-use Rattle.std.proofs.Common.{◌≡◌, None, arith, rules}
-use Rattle.call_list.specs.Numbers.{number_of}
+use Rattle.std.proofs.Common.{arith, rules}
 use Rattle.call_list.proofs.Decimals.{number_within, number_written}
 use Rattle.call_list.proofs.numbers.number.Goals as goal
 
-pub returns-then-is_empty : goal.returns-then-is_empty
-returns-then-is_empty c =
-    let e : None ≡ number_of c.args.limit c.args.word.now = search rules in
-    record { value = e; within = tt; written = number_written _ _ _ (omega arith) e }
+pub returns-then-is_empty-clause-written : goal.returns-then-is_empty-clause-written
+returns-then-is_empty-clause-written c = number_written _ _ _ (omega arith) (search rules)
 
-pub returns : goal.returns
-returns c =
-    let e : c.digits_value.result ≡ number_of c.args.limit c.args.word.now = search rules in
-    record { value = e; within = number_within _ c.args.word.now _ e; written = number_written _ _ _ (omega arith) e }
+pub returns-clause-within : goal.returns-clause-within
+returns-clause-within c = number_within _ c.args.word.now _ (search rules)
+
+pub returns-clause-written : goal.returns-clause-written
+returns-clause-written c = number_written _ _ _ (omega arith) (search rules)
