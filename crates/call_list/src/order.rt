@@ -19,19 +19,23 @@ pub(crate) enum OrderName {
     Sign,
 }
 
-fn name_of(word: &[u8]) -> Result<OrderName, Wrong>
-    ensures { result ≡ name_of word.now }
-{
-    match word {
-        b"" => Err(Wrong::MissingWord),
-        b"authority" => Ok(OrderName::Authority),
-        b"level" => Ok(OrderName::Level),
-        b"text" => Ok(OrderName::Text),
-        b"withdraw" => Ok(OrderName::Withdraw),
-        b"stop" => Ok(OrderName::Stop),
-        b"permission" => Ok(OrderName::Permission),
-        b"sign" => Ok(OrderName::Sign),
-        _ => Err(Wrong::UnknownOrder),
+impl<'a> TryFrom<&'a [u8]> for OrderName {
+    type Error = Wrong;
+
+    ghost try_from_gives = { λ word r. r ≡ name_of word.now };
+
+    fn try_from(word: &'a [u8]) -> Result<OrderName, Wrong> {
+        match word {
+            b"" => Err(Wrong::MissingWord),
+            b"authority" => Ok(OrderName::Authority),
+            b"level" => Ok(OrderName::Level),
+            b"text" => Ok(OrderName::Text),
+            b"withdraw" => Ok(OrderName::Withdraw),
+            b"stop" => Ok(OrderName::Stop),
+            b"permission" => Ok(OrderName::Permission),
+            b"sign" => Ok(OrderName::Sign),
+            _ => Err(Wrong::UnknownOrder),
+        }
     }
 }
 
@@ -50,7 +54,7 @@ pub(crate) fn order_of(text: &[u8]) -> Result<Order<'static>, Wrong>
     ensures { ReadsOrder (order_of text.now) result }
 {
     let (name, rest) = split_word(text);
-    match name_of(name)? {
+    match OrderName::try_from(name)? {
         OrderName::Authority => {
             let mode = last_word(rest)?;
             let mode = mode_of(mode).ok_or(Wrong::UnknownMode)?;

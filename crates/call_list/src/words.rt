@@ -1,7 +1,6 @@
-ghost use Rattle.std.specs.Prelude.{◌≡◌, ◌≤◌, length, true, false, Some, None};
-ghost use Rattle.std.specs.List.{position_or_len};
+ghost use Rattle.std.specs.Prelude.{◌≡◌, true, false, Some, None};
 ghost use Rattle.std.specs.Result.{MatchResult};
-ghost use Rattle.call_list.specs.Words.{is_blank, is_printing, word_of, after_word, is_empty, count_fault};
+ghost use Rattle.call_list.specs.Words.{is_blank, word_of, after_word, is_empty, count_fault};
 ghost use Rattle.call_list.specs.declared.entry.Wrong.TheVariants.{MissingWord};
 
 use crate::entry::Wrong;
