@@ -1,67 +1,58 @@
 -- The counting of answers, row by row.
-use Rattle.std.proofs.Common.{◌≡◌, ℕ, ◌+◌, ◌<◌, Bool, true, false, List, [], ◌∷◌, length, get_or, drop, sym, refl, ◌∙◌, subst, subst₂, ⊎_elim, add-zero, arith}
-use Rattle.std.proofs.lemmas.List.{drop_more, drop_all, drop-drop, get_or-drop}
-use Rattle.std.proofs.lemmas.Bool.{cases_lt}
+use Rattle.std.proofs.Common.{◌≡◌, ℕ, ◌+◌, Bool, true, false, List, ◌∷◌, get_or, drop, None, sym, refl, ap, ◌∙◌, subst, subst₂, ⊎_elim, add-zero, arith}
+use Rattle.std.proofs.iter.Yields.{fronts}
+use Rattle.std.proofs.lemmas.Iterator.{zips}
+use Rattle.std.proofs.lemmas.List.{drop-drop, get_or-drop}
+use Rattle.std.proofs.lemmas.Slice.Zip.{either_empty_from_Zip}
+use Rattle.std.specs.Iterator.Adapters.{zip_first, zip_second}
+use Rattle.std.specs.Slice.Iter.{iter_rest}
 use Rattle.driver_desk.specs.declared.answer.Answer.{Answer}
 use Rattle.compare.specs.Compared.{AgreeOutside, Counted, Counted.none_left, Counted.none_right, Counted.marked, Counted.agrees, Counted.differs}
 
--- what is counted of the rows from i on, beside c and d, is counted of all
-abbrev pub Counts-from : List Bool → List Answer → List Answer → ℕ → ℕ → ℕ → Type 0
-Counts-from ms as' bs i c d = (m n : ℕ) → Counted (drop i ms) (drop i as') (drop i bs) m n → Counted ms as' bs (c + m) (d + n)
+module _ (ms : List Bool) (as' bs : List Answer) where
+  -- what is counted of the rows that are left from i on, beside c and d, is counted of all
+  abbrev pub Counts-left : ℕ → List Answer → List Answer → ℕ → ℕ → Type 0
+  Counts-left i xs ys c d = (m n : ℕ) → Counted (drop i ms) xs ys m n → Counted ms as' bs (c + m) (d + n)
 
--- an element of a list that is not empty
-any_of : (xs : List Answer) (i : ℕ) → i < length xs → Answer
-any_of [] i h = absurd (omega arith)
-any_of (x ∷ xs) i h = x
+  module _ {n i j : ℕ} {x y : Answer} {xs xs' ys ys' : List Answer} (p : xs ≡ x ∷ xs') (q : ys ≡ y ∷ ys') (at : i ≡ n) (on : j ≡ n + 1) (c d : ℕ) (inv : Counts-left n xs ys c d) where
+    -- the mark of the row in front
+    here : get_or (drop n ms) 0 false ≡ get_or ms i false
+    here = get_or-drop n ms 0 false ∙ ap (λ k. get_or ms k false) (add-zero n ∙ sym at)
 
-module _ (ms : List Bool) (as' bs : List Answer) (i : ℕ) where
-  -- the mark of the row at a place
-  mark_here : get_or (drop i ms) 0 false ≡ get_or ms i false
-  mark_here = get_or-drop i ms 0 false ∙ (rw add-zero)
-
-  module _ (x y : Answer) (h : i < length as') (k : i < length bs) (c d : ℕ) (inv : Counts-from ms as' bs i c d) where
     -- a row in front of the rest
-    row : (m n : ℕ) → Counted (drop i ms) (get_or as' i x ∷ drop (i + 1) as') (get_or bs i y ∷ drop (i + 1) bs) m n → Counted ms as' bs (c + m) (d + n)
-    row m n r = inv m n (subst₂ (λ u v. Counted (drop i ms) u v m n) (sym (drop_more as' i x h)) (sym (drop_more bs i y k)) r)
+    row : (k l : ℕ) → Counted (drop n ms) (x ∷ xs') (y ∷ ys') k l → Counted ms as' bs (c + k) (d + l)
+    row k l r = inv k l (subst₂ (λ u v. Counted (drop n ms) u v k l) (sym p) (sym q) r)
 
     -- the rows behind it
-    rest : (m n : ℕ) → Counted (drop (i + 1) ms) (drop (i + 1) as') (drop (i + 1) bs) m n → Counted (drop 1 (drop i ms)) (drop (i + 1) as') (drop (i + 1) bs) m n
-    rest m n r = subst (λ l. Counted l (drop (i + 1) as') (drop (i + 1) bs) m n) (sym (drop-drop 1 i ms)) r
+    rest : (k l : ℕ) → Counted (drop j ms) xs' ys' k l → Counted (drop 1 (drop n ms)) xs' ys' k l
+    rest k l r = subst (λ bs'. Counted bs' xs' ys' k l) (ap (λ m. drop m ms) on ∙ sym (drop-drop 1 n ms)) r
 
-    -- a row with a mark
-    row-marked : get_or ms i false ≡ true → Counts-from ms as' bs (i + 1) c d
-    row-marked e m n r = row m n (marked (mark_here ∙ e) (rest m n r))
+    -- one more row with a mark
+    pub count_marked : get_or ms i false ≡ true → Counts-left j xs' ys' c d
+    count_marked e k l r = row k l (marked (here ∙ e) (rest k l r))
 
     -- one more row with no mark, whose answers are equal, or are not
-    pub count_agrees : get_or ms i false ≡ false → get_or as' i x ≡ get_or bs i y → Counts-from ms as' bs (i + 1) (c + 1) d
-    count_agrees e s m n r =
-        let p : c + (1 + m) ≡ (c + 1) + m = omega arith in
-        subst (λ u. Counted ms as' bs u (d + n)) p (row (1 + m) n (agrees (mark_here ∙ e) s (rest m n r)))
+    pub count_agrees : get_or ms i false ≡ false → x ≡ y → Counts-left j xs' ys' (c + 1) d
+    count_agrees e s k l r =
+        let p : c + (1 + k) ≡ (c + 1) + k = omega arith in
+        subst (λ u. Counted ms as' bs u (d + l)) p (row (1 + k) l (agrees (here ∙ e) s (rest k l r)))
 
-    pub count_differs : get_or ms i false ≡ false → (get_or as' i x ≡ get_or bs i y → ⊥) → Counts-from ms as' bs (i + 1) (c + 1) (d + 1)
-    count_differs e s m n r =
-        let p : c + (1 + m) ≡ (c + 1) + m = omega arith in
-        let q : d + (1 + n) ≡ (d + 1) + n = omega arith in
-        subst₂ (λ u v. Counted ms as' bs u v) p q (row (1 + m) (1 + n) (differs (mark_here ∙ e) s (rest m n r)))
+    pub count_differs : get_or ms i false ≡ false → (x ≡ y → ⊥) → Counts-left j xs' ys' (c + 1) (d + 1)
+    count_differs e s k l r =
+        let p : c + (1 + k) ≡ (c + 1) + k = omega arith in
+        let q : d + (1 + l) ≡ (d + 1) + l = omega arith in
+        subst₂ (λ u v. Counted ms as' bs u v) p q (row (1 + k) (1 + l) (differs (here ∙ e) s (rest k l r)))
 
-  -- one more row with a mark
-  pub count_marked : (c d : ℕ) → i < length as' → i < length bs → Counts-from ms as' bs i c d → get_or ms i false ≡ true → Counts-from ms as' bs (i + 1) c d
-  count_marked c d h k inv = row-marked (any_of as' i h) (any_of bs i k) h k c d inv
-
-  -- past the last row nothing is left to count
-  none_past : (i < length as' → i < length bs → ⊥) → Counted (drop i ms) (drop i as') (drop i bs) 0 0
-  none_past h =
-      ⊎_elim
-      (λ a. ⊎_elim
-      (λ b. absurd (h a b))
-      (λ b. subst (λ l. Counted (drop i ms) (drop i as') l 0 0) (sym (drop_all i bs b)) none_right)
-      (cases_lt i (length bs)))
-      (λ a. subst (λ l. Counted (drop i ms) l (drop i bs) 0 0) (sym (drop_all i as' a)) none_left)
-      (cases_lt i (length as'))
-
-  -- all is counted then
-  pub count_past : (c d : ℕ) → (i < length as' → i < length bs → ⊥) → Counts-from ms as' bs i c d → Counted ms as' bs c d
-  count_past c d h inv = subst₂ (λ u v. Counted ms as' bs u v) (add-zero c) (add-zero d) (inv 0 0 (none_past h))
+  -- where one list is at its end, all is counted
+  pub count_past : (i : ℕ) (s t : _) (r : _) (c d : ℕ) → r ≡ None → zips (fronts {A = Answer}) (fronts {A = Answer}) s r t → Counts-left i (iter_rest (zip_first s)) (iter_rest (zip_second s)) c d → Counted ms as' bs c d
+  count_past i s t r c d e h inv = subst₂ (λ u v. Counted ms as' bs u v) (add-zero c) (add-zero d) (inv 0 0 none)
+    where
+      none : Counted (drop i ms) (iter_rest (zip_first s)) (iter_rest (zip_second s)) 0 0
+      none =
+          ⊎_elim
+          (λ a. subst (λ l. Counted (drop i ms) l (iter_rest (zip_second s)) 0 0) (sym a) none_left)
+          (λ b. subst (λ l. Counted (drop i ms) (iter_rest (zip_first s)) l 0 0) (sym b) none_right)
+          (either_empty_from_Zip s t r e h)
 
 -- where the answers with no mark are equal, none of them differs
 pub none_differ : {ms : List Bool} {as' bs : List Answer} {c d : ℕ} → Counted ms as' bs c d → AgreeOutside ms as' bs → d ≡ 0

@@ -2,7 +2,7 @@
 use Rattle.std.proofs.Common.{◌≡◌, ℕ, suc, ◌+◌, ◌-◌, ◌<◌, ◌≤◌, Bool, true, false, cond, ◌&&◌, List, [], ◌∷◌, ◌++◌, map, length, get_or, take, drop, replicate, Some, None, Option, MatchOption, Bor, Decides, sym, refl, ap, ◌∙◌, subst, ap₂, subst₂, arith}
 use Rattle.std.specs.List.{prefix_len, zip}
 use Rattle.std.specs.Slice.{IsItemAt}
-use Rattle.std.proofs.lemmas.List.{drop_all, drop_more, drop-drop, drop-map, length-drop, append_assoc, append-nil, take_all}
+use Rattle.std.proofs.lemmas.List.{drop_all, drop_more, drop-map, length-drop, append_assoc, append-nil, take_all, nil_from_length}
 use Rattle.std.proofs.lemmas.Bool.{and_parts, false≢true}
 use Rattle.cab_unit.specs.declared.call.Call.{Call}
 use Rattle.cab_unit.specs.Events.{Event, said}
@@ -73,35 +73,37 @@ front_within (one n d) = (omega arith, (omega arith, omega arith, omega arith, o
 front_within (uneven k l h t u m n) = (l, h)
 front_within (texts k l h t u n j) = (l, h)
 
--- what is walked from a place on, behind what was found so far, is walked of all
-abbrev pub Walks : List Event → List Answer → List Event → List Answer → ℕ → Bool → List Bool → Type 0
-Walks es as' fs bs i s ms = (u : Bool) (ns : List Bool) → Walked u ns (drop i es) (drop i as') (drop i fs) (drop i bs) → Walked (s && u) (ms ++ ns) es as' fs bs
+-- what is walked of the rests, behind what was found so far, is walked of all
+abbrev pub Walks : List Event → List Answer → List Event → List Answer → List Event → List Answer → List Event → List Answer → Bool → List Bool → Type 0
+Walks es as' fs bs es' as'' fs' bs' s ms = (u : Bool) (ns : List Bool) → Walked u ns es' as'' fs' bs' → Walked (s && u) (ms ++ ns) es as' fs bs
 
-module _ (es : List Event) (as' : List Answer) (fs : List Event) (bs : List Answer) (i : ℕ) where
+module _ {t m : Bool} {k : ℕ} {es' es'' fs' fs'' : List Event} {as'' as₃ bs' bs'' : List Answer}
+    (r : Front t m k es' as'' fs' bs') (p : es'' ≡ drop k es') (q : as₃ ≡ drop k as'') (p' : fs'' ≡ drop k fs') (q' : bs'' ≡ drop k bs') where
   -- one front more
-  pub walk_more : {t m : Bool} (k : ℕ) (s : Bool) (ms : List Bool) → Walks es as' fs bs i s ms → Front t m k (drop i es) (drop i as') (drop i fs) (drop i bs) →
-      Walks es as' fs bs (i + k) (s && t) (ms ++ replicate k m)
-  walk_more {t} {m} k s ms inv r u ns w =
-      let rest = same_rows (Walked u ns) (sym (drop-drop k i es)) (sym (drop-drop k i as')) (sym (drop-drop k i fs)) (sym (drop-drop k i bs)) w in
+  pub walk_more : {es fs : List Event} {as' bs : List Answer} (s : Bool) (ms : List Bool) → Walks es as' fs bs es' as'' fs' bs' s ms → Walks es as' fs bs es'' as₃ fs'' bs'' (s && t) (ms ++ replicate k m)
+  walk_more {es} {fs} {as'} {bs} s ms inv u ns w =
+      let rest = same_rows (Walked u ns) p q p' q' w in
       subst₂ (λ x y. Walked x y es as' fs bs) (sym (and_assoc s t u)) (sym (append_assoc ms (replicate k m) ns)) (inv (t && u) (replicate k m ++ ns) (more r rest))
 
-  -- past the last call nothing is left to walk
-  pub walk_past : (s : Bool) (ms : List Bool) → AsLong es as' fs bs → length es ≤ i → Walks es as' fs bs i s ms → Walked s ms es as' fs bs
-  walk_past s ms h l inv =
-      let none = same_rows (Walked true []) (sym (drop_all i es (omega arith))) (sym (drop_all i as' (omega (arith, h)))) (sym (drop_all i fs (omega (arith, h)))) (sym (drop_all i bs (omega (arith, h)))) ended in
-      subst₂ (λ x y. Walked x y es as' fs bs) (and_all s) (append-nil ms) (inv true [] none)
+  -- behind a front the lists are shorter, and have as many answers again
+  pub front_fits : AsLong es' as'' fs' bs' → AsLong es'' as₃ fs'' bs'' × (0 < k) × (k + length es'' ≡ length es')
+  front_fits h =
+      let w = front_within r in
+      let n : k ≤ length es' = w.1.0 in
+      let e = ap length p ∙ length-drop k es' in
+      let a = ap length q ∙ length-drop k as'' in
+      let f = ap length p' ∙ length-drop k fs' in
+      let b = ap length q' ∙ length-drop k bs' in
+      ((omega (arith, h), omega (arith, h), omega (arith, h)), w.0, omega arith)
 
--- a front of the rests brings on, and not past the end
-pub front_fits : {t m : Bool} {k : ℕ} {es' fs : List Event} {as' bs : List Answer} (es : List Event) (i : ℕ) → i < length es → es' ≡ drop i es → Front t m k es' as' fs bs →
-    (0 < k) × (i + k ≤ length es)
-front_fits {k = k} {es' = es'} es i h p r =
-    let w = front_within r in
-    let n : k ≤ length es' = w.1.0 in
-    let l : length es' ≡ length es - i = ap length p ∙ length-drop i es in
-    (w.0, omega arith)
+-- where no call is left, nothing is left to walk
+pub walk_past : {es fs es' fs' : List Event} {as' bs as'' bs' : List Answer} (s : Bool) (ms : List Bool) → AsLong es' as'' fs' bs' → length es' ≡ 0 → Walks es as' fs bs es' as'' fs' bs' s ms → Walked s ms es as' fs bs
+walk_past {es} {fs} {as' = as'} {bs = bs} s ms h l inv =
+    let none = same_rows (Walked true []) (sym (nil_from_length _ l)) (sym (nil_from_length _ (h.1 ∙ l))) (sym (nil_from_length _ (h.0 ∙ l))) (sym (nil_from_length _ (h.2 ∙ l))) ended in
+    subst₂ (λ x y. Walked x y es as' fs bs) (and_all s) (append-nil ms) (inv true [] none)
 
 -- as many marks more as the front is long
-pub marks_more : (ms : List Bool) (n i k : ℕ) (m : Bool) → n ≡ length ms → n ≡ i → take (i + k) ms ++ replicate ((i + k) - n) m ≡ ms ++ replicate k m
+pub marks_more : (ms : List Bool) (n i k : ℕ) (m : Bool) → n ≡ length ms → i ≡ n → take (i + k) ms ++ replicate ((i + k) - n) m ≡ ms ++ replicate k m
 marks_more ms n i k m e p =
     let past : length ms ≤ i + k = omega arith in
     let left : (i + k) - n ≡ k = omega arith in

@@ -69,18 +69,18 @@ fn compare_front(heap: Global, run: Run<'_>, other: Run<'_>) -> Result<Step, All
 }
 
 // Lists with as many answers, front by front.
-fn walk_lists(heap: Global, run: Run<'_>, other: Run<'_>) -> Result<Likeness, AllocError>
+fn walk_lists(heap: Global, mut run: Run<'_>, mut other: Run<'_>) -> Result<Likeness, AllocError>
     requires { AsLong (asked run) run.answers.now (asked other) other.answers.now }
     ensures { IfOk result (λ l. Walked l.alike l.reordered.items (asked run.entry) run.entry.answers.now (asked other.entry) other.entry.answers.now) }
 {
     let mut alike = true;
     let mut reordered = Vec::new(heap);
-    let mut i = 0;
-    while i < run.calls.len() {
-        let step = compare_front(heap, run.behind(i), other.behind(i))?;
-        i += step.length;
+    while !run.calls.is_empty() {
+        let step = compare_front(heap, run, other)?;
+        run = run.behind(step.length);
+        other = other.behind(step.length);
         alike &= step.stretch.is_alike();
-        reordered.resize(i, step.stretch.is_reordered())?;
+        reordered.resize(reordered.len() + step.length, step.stretch.is_reordered())?;
     }
     Ok(Likeness { alike, reordered })
 }

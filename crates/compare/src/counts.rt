@@ -21,11 +21,10 @@ pub(crate) fn count_answers(
 {
     let mut compared: usize = 0;
     let mut differing: usize = 0;
-    // An index: over enumerate the proof did not close.
-    for i in 0..answers.len().min(other_answers.len()) {
+    for (i, (answer, other)) in answers.iter().zip(other_answers).enumerate() {
         if !reordered.get(i).copied().unwrap_or(false) {
             compared += 1;
-            if answers[i] != other_answers[i] {
+            if answer != other {
                 differing += 1;
             }
         }

@@ -32,10 +32,14 @@ pub(crate) fn unequal_speeds<E: TrainEnd, F: TrainEnd>(
     ensures { result ≡ unequal_speeds (told E.reading (E.speed_of one.old) (asked run.entry) run.entry.answers.now) (told F.reading (F.speed_of other.old) (asked other_run.entry) other_run.entry.answers.now) }
 {
     let mut unequal: usize = 0;
-    // An index: the proof over four lists zipped did not close.
-    for i in 0..run.len().min(other_run.len()) {
-        hear_call(one, &run.calls[i], &run.answers[i]);
-        hear_call(other, &other_run.calls[i], &other_run.answers[i]);
+    for ((call, answer), (other_call, other_answer)) in run
+        .calls
+        .iter()
+        .zip(run.answers)
+        .zip(other_run.calls.iter().zip(other_run.answers))
+    {
+        hear_call(one, call, answer);
+        hear_call(other, other_call, other_answer);
         if one.speed() != other.speed() {
             unequal += 1;
         }
