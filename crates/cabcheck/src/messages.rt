@@ -98,6 +98,7 @@ impl<'a> Messages<'a> {
         let _ = self.window.remove(number);
     }
 
+    // Over the numbers that a text can have, not over places.
     fn take_out_all(&mut self) {
         for number in 0..=u8::MAX {
             self.take_out(number);

@@ -4,7 +4,8 @@ ghost use Rattle.compare.specs.Asked.{asked};
 use cab_unit::Call;
 use driver_desk::Answer;
 
-// A run: its calls with the answers that came.
+// A run: its calls with the answers that came. The lists stand side by side as a run on the bench takes and fills them;
+// two runs are handed on as two, since they are what is compared.
 #[derive(Clone, Copy)]
 pub struct Run<'a> {
     pub calls: &'a [Call<'a>],
