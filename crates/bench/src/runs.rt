@@ -76,6 +76,7 @@ fn make_call<E: TrainEnd>(unit: &mut Unit<E>, call: &Call<'_>) -> Answer
 }
 
 // Makes the calls in their order, and writes the answer to each at its place.
+// By the place's index: of what is written through `iter_mut` beside `zip` a proof knows nothing afterwards.
 fn run_into<E: TrainEnd>(unit: &mut Unit<E>, calls: &[Call<'_>], answers: &mut [Answer])
     requires { length answers.old ≡ length calls.now }
     ensures state { view E.speed_of E.line_of unit.new ≡ after E.reading (map said calls.now) (view E.speed_of E.line_of unit.old) }
@@ -114,7 +115,7 @@ pub fn run_lent<E: TrainEnd, F: TrainEnd>(
     Ok(Cabs { one, other })
 }
 
-// A place for each of n answers.
+// A place for each of n answers. The blank is written out: no mode, level or line is one by default, and each place is written over.
 fn blank_answers(heap: Global, n: usize) -> Result<Vec<Answer>, AllocError>
     ensures { IfOk result (λ v. vec_len v ≡ n) }
 {

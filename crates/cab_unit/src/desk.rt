@@ -7,15 +7,11 @@ ghost use Rattle.driver_desk.specs.Numbers.{level_of};
 use driver_desk::Level;
 use telegram::Mode;
 
-// The level with a number up to 2. An accepted order's level is in the list, so there is no refusal to answer as `try_from` would.
+// The level with a number up to 2. An order with another number was refused before.
 pub fn level_numbered(number: u8) -> Level
     ensures { result ≡ level_of number }
 {
-    match number {
-        0 => Level::Zero,
-        1 => Level::One,
-        _ => Level::Two,
-    }
+    Level::try_from(number).unwrap_or(Level::Two)
 }
 
 // The supervised modes are those that an authority can be for.

@@ -60,7 +60,7 @@ impl<E: TrainEnd> Cab<E> {
         }
     }
 
-    // A refusal or none, and no Result: that is what an answer's outcome holds.
+    // A refusal or none, as the definitions and an answer's outcome have it; so is what it asks above. A Result with nothing in Ok would be no shorter.
     pub fn order_refusal(&self, order: Order<'_>) -> Option<Refusal>
         ensures { result ≡ refusal_of (events.Event.order (value_of order.entry)) (view E.speed_of E.line_of self.now) }
     {

@@ -10,6 +10,7 @@ use driver_desk::{Class, Request};
 use ordering::order::first_of;
 
 // The requests that wait, kept in no order. They mean the list of them sorted by `before`.
+// No model: the unit's clauses compare its parts after a refusal, and a sorted list would forget their places.
 #[derive(Drop)]
 pub struct Waiting {
     items: ArrayVec<Request, 16>,
@@ -94,7 +95,7 @@ impl Waiting {
         (waited - self.items.len()) as u8
     }
 
-    // Withdraws the texts of a number, and says how many they were.
+    // Withdraws the texts of a number, and says how many they were. The clause of one function over a closure would be longer than both bodies.
     pub fn withdraw_text(&mut self, number: u8) -> u8
         ensures rest { ordered self.new.items ≡ filter (λ r. not (is_for class.Text number r)) (ordered self.old.items) }
         ensures number { result ≡ tally (is_for class.Text number) (ordered self.old.items) }

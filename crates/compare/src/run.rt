@@ -5,7 +5,7 @@ use cab_unit::Call;
 use driver_desk::Answer;
 
 // A run: its calls with the answers that came. The lists stand side by side as a run on the bench takes and fills them;
-// two runs are handed on as two, since they are what is compared.
+// two runs are handed on as two, since they are what is compared. The definitions speak of lists of events and answers, as the law does.
 #[derive(Clone, Copy)]
 pub struct Run<'a> {
     pub calls: &'a [Call<'a>],

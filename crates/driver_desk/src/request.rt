@@ -27,7 +27,8 @@ impl Class {
 }
 
 // A request to the driver, with the cycle in which it was raised. A timed one brakes when it is overdue.
-// Its number is a mode's code, a level's number or a text's number, as its class says: it is told, ordered and counted as a number.
+// Its number is a mode's code, a level's number, a text's number or 0, as its class says. Order, book and laws speak of class and number,
+// so a value with the class would be turned into this pair at each of them.
 // The default stands at the free places of a run of fixed length.
 #[derive(Clone, Copy, Default, PartialEq, Eq, Debug)]
 pub struct Request {

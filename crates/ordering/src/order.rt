@@ -25,6 +25,7 @@ pub fn first_of<T: Ordered>(run: &[T]) -> Option<usize>
     if run.is_empty() {
         return None;
     }
+    // No `reduce`: its closure would hold the same test, over pairs of a place and a record.
     let mut best = 0;
     for (i, x) in run.iter().enumerate() {
         if x.is_before(&run[best]) {

@@ -9,7 +9,7 @@ pub enum ShelfRefusal {
     NoSuchPosition,
 }
 
-// A slice and a count, and no `Vec` or `ArrayVec`: fixed memory, whose size its owner chooses.
+// A slice and a count: the records lie on memory that the owner lends. No model, since clauses name that run beside the records.
 #[derive(Drop)]
 pub struct Shelf<'a, T> {
     run: &'a mut [T],

@@ -13,7 +13,7 @@ pub mod refusal;
 #[cfg(test)]
 mod tests;
 
-// The lines stand front to back, the newest added in front. No number is there twice.
+// The lines stand front to back, the newest added in front. No number is there twice. No model, since clauses name the lent run beside the lines.
 #[derive(Drop)]
 pub struct Window<'a> {
     shelf: Shelf<'a, Line>,
