@@ -16,7 +16,7 @@ pub enum Failure<'n> {
         wrong: Wrong,
     },
     NoMemory,
-    // Told by the status alone: output cannot be written, or memory is wanting once the lists are read.
+    // Told by the status alone: output cannot be written, or memory is wanting for a plan, or to compare and print what was run.
     Unsaid,
 }
 
@@ -28,7 +28,7 @@ impl<'n> Failure<'n> {
         }
     }
 
-    // Says on standard error what went wrong.
+    // Says on standard error what went wrong. No Display: Unsaid has no words, and eprintln! would print an empty line for it.
     pub fn say(&self, rt: &HostRuntime) -> io::Result<()> {
         match self {
             Failure::Options(error) => eprintln!(rt; "cabcheck: {error}"),

@@ -8,6 +8,9 @@ use window::line::Line;
 // How many lines the message window has.
 pub const ROWS: usize = 12;
 
+// The number of the button Close desk.
+const CLOSE_DESK: u8 = 9;
+
 // A line that nothing shows yet.
 pub const FREE: Line = Line {
     cycle: 0,
@@ -25,8 +28,8 @@ pub struct Messages<'a> {
 }
 
 impl<'a> Messages<'a> {
-    // A window of as many lines as are lent, which shows nothing.
-    pub fn new(heap: Global, lines: &'a mut [Line]) -> Messages<'a> {
+    // A window of the lines that are lent, which shows nothing.
+    pub fn new(heap: Global, lines: &'a mut [Line; ROWS]) -> Messages<'a> {
         Messages {
             window: Window::new(lines),
             store: Vec::new(heap),
@@ -55,7 +58,7 @@ impl<'a> Messages<'a> {
         match *call {
             Call::Order(Order::Text { number, text, .. }) => self.bring_in(number, text)?,
             Call::Order(Order::TextWithdrawal(number)) => self.take_out(number),
-            Call::Press(9) => self.take_out_all(),
+            Call::Press(CLOSE_DESK) => self.take_out_all(),
             _ => {}
         }
         Ok(())
@@ -98,7 +101,7 @@ impl<'a> Messages<'a> {
         let _ = self.window.remove(number);
     }
 
-    // Over the numbers that a text can have, not over places.
+    // Over all numbers, since a window takes a line out by its number alone.
     fn take_out_all(&mut self) {
         for number in 0..=u8::MAX {
             self.take_out(number);

@@ -54,25 +54,26 @@ impl Note {
     }
 }
 
-// What a row tells: the next call of the unit, or what is no call of it.
+// What a row tells: of a call of the unit, with C for what it says of one, or what is no call.
 #[derive(Clone, Copy)]
-pub enum What {
-    // An order of a telegram has its places there.
-    Call(Option<Places>),
+pub enum Told<C> {
+    Call(C),
     Note(Note),
 }
 
+// A row, and the line of the list that it tells of.
 #[derive(Clone, Copy)]
-pub struct Planned {
+pub struct Row<C> {
     pub line: usize,
-    pub what: What,
+    pub told: Told<C>,
 }
 
-// The calls of one cab, and the rows that tell of them. The calls stand by themselves, since a run takes them as a slice.
+// The calls of one cab, and the rows that tell of them, each that tells of a call of the next one.
+// The calls stand by themselves, since a run takes them as a slice; a row has the places of a telegram's order.
 #[derive(Drop)]
 pub struct Plan<'a> {
     pub calls: Vec<Call<'a>>,
-    pub rows: Vec<Planned>,
+    pub rows: Vec<Row<Option<Places>>>,
 }
 
 impl<'a> Plan<'a> {
@@ -142,15 +143,15 @@ impl<'a> Plan<'a> {
         places: Option<Places>,
     ) -> Result<(), AllocError> {
         self.calls.push(call)?;
-        self.add_row(line, What::Call(places))
+        self.add_row(line, Told::Call(places))
     }
 
     fn add_note(&mut self, line: usize, note: Note) -> Result<(), AllocError> {
-        self.add_row(line, What::Note(note))
+        self.add_row(line, Told::Note(note))
     }
 
-    fn add_row(&mut self, line: usize, what: What) -> Result<(), AllocError> {
-        self.rows.push(Planned { line, what })?;
+    fn add_row(&mut self, line: usize, told: Told<Option<Places>>) -> Result<(), AllocError> {
+        self.rows.push(Row { line, told })?;
         Ok(())
     }
 }

@@ -1,7 +1,7 @@
 ghost use Rattle.std.specs.Prelude.{length};
 ghost use Rattle.std.specs.Iterator.{at_most};
 
-use crate::plan::{Note, Places, Plan, Planned, What};
+use crate::plan::{Places, Plan, Row, Told};
 use cab_unit::{Call, Unit};
 use compare::Run;
 use driver_desk::Answer;
@@ -36,59 +36,44 @@ impl<'p, 'c> Side<'p, 'c> {
         }
     }
 
-    pub fn rows(&self) -> Rows<'p, 'c> {
+    pub fn rows(&self) -> Rows<'p> {
         Rows {
             planned: self.plan.rows.as_slice(),
-            calls: self.plan.calls.as_slice(),
-            answers: self.answers,
+            run: self.run(),
         }
     }
 }
 
-// What one cab has to tell in a row: a call of the unit with its answer, or what is no call of it.
+// A call of the unit with its answer; an order of a telegram has its places there.
 #[derive(Clone, Copy)]
-pub enum Told<'c> {
-    Call {
-        call: Call<'c>,
-        places: Option<Places>,
-        answer: Answer,
-    },
-    Note(Note),
-}
-
-// A row, and the line of the list that it tells of.
-#[derive(Clone, Copy)]
-pub struct Row<'c> {
-    pub line: usize,
-    pub told: Told<'c>,
+pub struct Answered<'c> {
+    pub call: Call<'c>,
+    pub places: Option<Places>,
+    pub answer: Answer,
 }
 
 // The rows of one cab in their order: each that tells of a call takes the next call and its answer.
 #[derive(Drop)]
-pub struct Rows<'p, 'c> {
-    planned: &'p [Planned],
-    calls: &'p [Call<'c>],
-    answers: &'p [Answer],
+pub struct Rows<'p> {
+    planned: &'p [Row<Option<Places>>],
+    run: Run<'p>,
 }
 
-impl<'p, 'c> Iterator for Rows<'p, 'c> {
-    type Item = Row<'c>;
+impl<'p> Iterator for Rows<'p> {
+    type Item = Row<Answered<'p>>;
 
     ghost remaining = { λ s. at_most (length s.planned.now) };
 
-    fn next(&mut self) -> Option<Row<'c>> {
-        let planned = self.planned.split_off_first()?;
-        let told = match planned.what {
-            What::Call(places) => Told::Call {
-                call: *self.calls.split_off_first()?,
+    fn next(&mut self) -> Option<Row<Answered<'p>>> {
+        let Row { line, told } = *self.planned.split_off_first()?;
+        let told = match told {
+            Told::Call(places) => Told::Call(Answered {
+                call: *self.run.calls.split_off_first()?,
                 places,
-                answer: *self.answers.split_off_first()?,
-            },
-            What::Note(note) => Told::Note(note),
+                answer: *self.run.answers.split_off_first()?,
+            }),
+            Told::Note(note) => Told::Note(note),
         };
-        Some(Row {
-            line: planned.line,
-            told,
-        })
+        Some(Row { line, told })
     }
 }

@@ -1,6 +1,6 @@
 use crate::messages::{FREE, Messages, ROWS};
-use crate::plan::{Cab, Note, Places};
-use crate::side::{Row, Side, Told};
+use crate::plan::{Cab, Note, Places, Row, Told};
+use crate::side::{Answered, Side};
 use crate::words::{CallWords, RequestWords, outcome_number};
 use cab_unit::Call;
 use compare::{Likeness, same_asked};
@@ -25,17 +25,17 @@ enum Column {
 
 impl Column {
     // What the two ends read, where both rows tell of cycles.
-    fn of_cycles(told: &Told<'_>, other: &Told<'_>) -> Column {
+    fn of_cycles(told: &Told<Answered<'_>>, other: &Told<Answered<'_>>) -> Column {
         match (*told, *other) {
             (
-                Told::Call {
+                Told::Call(Answered {
                     call: Call::Cycle(bus),
                     ..
-                },
-                Told::Call {
+                }),
+                Told::Call(Answered {
                     call: Call::Cycle(pulse),
                     ..
-                },
+                }),
             ) => Column::Speeds {
                 bus: BusEnd::read(bus),
                 pulse: PulseEnd::read(pulse),
@@ -104,16 +104,11 @@ impl fmt::Display for NoteWords {
 }
 
 // The same call with the same answer, or the same of what is no call.
-fn same_told(told: &Told<'_>, other: &Told<'_>) -> bool {
+fn same_told(told: &Told<Answered<'_>>, other: &Told<Answered<'_>>) -> bool {
     match (*told, *other) {
-        (
-            Told::Call { call, answer, .. },
-            Told::Call {
-                call: other_call,
-                answer: other_answer,
-                ..
-            },
-        ) => same_asked(&call, &other_call) && answer == other_answer,
+        (Told::Call(one), Told::Call(other)) => {
+            same_asked(&one.call, &other.call) && one.answer == other.answer
+        }
         (Told::Note(note), Told::Note(other)) => note == other,
         _ => false,
     }
@@ -151,16 +146,21 @@ impl<W: Write> Table<'_, W> {
     }
 
     // A row of a cab, or that it has none; of a call that stands in no telegram, `column` comes behind the requests.
-    fn print_row(&mut self, cab: &str, row: Option<Row<'_>>, column: Column) -> io::Result<()> {
+    fn print_row(
+        &mut self,
+        cab: &str,
+        row: Option<Row<Answered<'_>>>,
+        column: Column,
+    ) -> io::Result<()> {
         let Some(Row { line, told }) = row else {
             return write!(self.out, "     - {cab:<5} nothing");
         };
         match told {
-            Told::Call {
+            Told::Call(Answered {
                 call,
                 places,
                 answer,
-            } => {
+            }) => {
                 let call = CallWords(call);
                 let call = format!(in self.heap; "{call}")?;
                 let column = places.map_or(column, Column::Places);
@@ -178,8 +178,8 @@ impl<W: Write> Table<'_, W> {
     // One row where both cabs tell the same, else both with a mark.
     fn print_pair(
         &mut self,
-        row: Option<Row<'_>>,
-        other: Option<Row<'_>>,
+        row: Option<Row<Answered<'_>>>,
+        other: Option<Row<Answered<'_>>>,
         reordered: bool,
         message: Message<'_>,
     ) -> io::Result<()> {
@@ -189,7 +189,7 @@ impl<W: Write> Table<'_, W> {
             if same_told(&one.told, &two.told) {
                 self.print_row("", row, column)?;
                 let message = match one.told {
-                    Told::Call { .. } => message,
+                    Told::Call(_) => message,
                     Told::Note(_) => Message(None),
                 };
                 return writeln!(self.out, "{message}");
@@ -230,7 +230,7 @@ pub fn print_table<W: Write + Drop>(
         let mut in_another_order = false;
         if let Some(
             Row {
-                told: Told::Call { call, answer, .. },
+                told: Told::Call(Answered { call, answer, .. }),
                 ..
             },
         ) = row

@@ -1,5 +1,5 @@
-use crate::plan::{Cab, Note};
-use crate::side::{Row, Side, Told};
+use crate::plan::{Cab, Note, Row, Told};
+use crate::side::{Answered, Side};
 use crate::words::{CallWords, RequestWords, outcome_number};
 use driver_desk::Answer;
 use std::io::Write;
@@ -53,7 +53,7 @@ pub fn print_tsv<W: Write>(out: &mut W, cab: Cab, side: &Side<'_, '_>) -> io::Re
     writeln!(out, "0\t{name}\ton\t{on}")?;
     for Row { line, told } in side.rows() {
         match told {
-            Told::Call { call, answer, .. } => {
+            Told::Call(Answered { call, answer, .. }) => {
                 let call = CallWords(call);
                 let answer = AnswerColumns(answer);
                 writeln!(out, "{line}\t{name}\t{call}\t{answer}")?;
