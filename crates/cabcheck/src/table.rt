@@ -28,14 +28,18 @@ impl Column {
     fn of_cycles(told: &Told<Answered<'_>>, other: &Told<Answered<'_>>) -> Column {
         match (*told, *other) {
             (
-                Told::Call(Answered {
-                    call: Call::Cycle(bus),
-                    ..
-                }),
-                Told::Call(Answered {
-                    call: Call::Cycle(pulse),
-                    ..
-                }),
+                Told::Call(
+                    Answered {
+                        call: Call::Cycle(bus),
+                        ..
+                    },
+                ),
+                Told::Call(
+                    Answered {
+                        call: Call::Cycle(pulse),
+                        ..
+                    },
+                ),
             ) => Column::Speeds {
                 bus: BusEnd::read(bus),
                 pulse: PulseEnd::read(pulse),
@@ -156,11 +160,13 @@ impl<W: Write> Table<'_, W> {
             return write!(self.out, "     - {cab:<5} nothing");
         };
         match told {
-            Told::Call(Answered {
-                call,
-                places,
-                answer,
-            }) => {
+            Told::Call(
+                Answered {
+                    call,
+                    places,
+                    answer,
+                },
+            ) => {
                 let call = CallWords(call);
                 let call = format!(in self.heap; "{call}")?;
                 let column = places.map_or(column, Column::Places);
