@@ -2,7 +2,7 @@
 #![tactic(auto)]
 
 mod entry;
-mod hex;
+mod hexadecimal;
 mod line;
 mod list;
 mod listed;

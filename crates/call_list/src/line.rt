@@ -3,7 +3,7 @@ ghost use Rattle.call_list.specs.Hex.{hex_bytes};
 ghost use Rattle.call_list.specs.Lines.{verb_of, cycle_line, telegram_line, press_line, record_line, order_line, line_of, Reads, ReadsEntry, ReadsLine, ReadsLineOrWantsMemory, ReadsBytes};
 
 use crate::entry::{Entry, LineFault, Wrong};
-use crate::hex::decode;
+use crate::hexadecimal::decode;
 use crate::numbers::{byte_wanted, number_wanted};
 use crate::order::order_of;
 use crate::words::{last_word, next_word, split_word};

@@ -17,6 +17,7 @@ fn note_line(
     ensures noted { Noted number (line_of line.now) listed.old.items listed.new.items result }
     ensures value { NotedOrWantsMemory number line.now listed.old.items listed.new.items result }
 {
+    // A match and no `?`: the line's number is added to a fault.
     match read_line(heap, line) {
         Ok(None) => Ok(()),
         Ok(Some(entry)) => {

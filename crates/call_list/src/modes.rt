@@ -3,7 +3,7 @@ ghost use Rattle.call_list.specs.Modes.{mode_of};
 
 use telegram::Mode;
 
-// The mode with a two-letter name. No TryFrom: the mode and the slice are types of other crates.
+// The mode with a two-letter name. The letters are words of this format (the wire has two bits for a mode), so the conversion stands here; a TryFrom for another crate's type can't.
 pub(crate) fn mode_of(word: &[u8]) -> Option<Mode>
     ensures { result ≡ mode_of word.now }
 {
