@@ -54,7 +54,7 @@ impl Note {
     }
 }
 
-// What a row tells: of a call of the unit, with C for what it says of one, or what is no call.
+// What a row tells: what C says of a call of the unit, or what is no call of it.
 #[derive(Clone, Copy)]
 pub enum Told<C> {
     Call(C),
@@ -68,8 +68,8 @@ pub struct Row<C> {
     pub told: Told<C>,
 }
 
-// The calls of one cab, and the rows that tell of them, each that tells of a call of the next one.
-// The calls stand by themselves, since a run takes them as a slice; a row has the places of a telegram's order.
+// The calls of one cab, and the rows that tell of them. A row of a call takes the next one, and has the places of a telegram's order.
+// The calls stand by themselves, since a run takes them as a slice.
 #[derive(Drop)]
 pub struct Plan<'a> {
     pub calls: Vec<Call<'a>>,

@@ -160,17 +160,11 @@ impl<W: Write> Table<'_, W> {
             return write!(self.out, "     - {cab:<5} nothing");
         };
         match told {
-            Told::Call(
-                Answered {
-                    call,
-                    places,
-                    answer,
-                },
-            ) => {
-                let call = CallWords(call);
+            Told::Call(answered) => {
+                let call = CallWords(answered.call);
                 let call = format!(in self.heap; "{call}")?;
-                let column = places.map_or(column, Column::Places);
-                self.print_answer(line, cab, call.as_str(), column, &answer)
+                let column = answered.places.map_or(column, Column::Places);
+                self.print_answer(line, cab, call.as_str(), column, &answered.answer)
             }
             Told::Note(note) => {
                 let name = note.name();
