@@ -23,7 +23,11 @@ fn load<'n>(rt: &HostRuntime, name: &'n str) -> Result<Vec<Listed>, Failure<'n>>
 pub fn run_options<'o>(rt: &HostRuntime, options: &'o Options) -> Result<ExitCode, Failure<'o>> {
     let heap = rt.alloc();
     let listed = load(rt, options.list.as_deref().unwrap_or("-"))?;
-    let second = options.second.as_deref().map(|name| load(rt, name)).transpose()?;
+    let second = options
+        .second
+        .as_deref()
+        .map(|name| load(rt, name))
+        .transpose()?;
     let bus = Plan::of_list(heap, Cab::Bus, &listed)?;
     let pulse = Plan::of_list(heap, Cab::Pulse, second.as_ref().unwrap_or(&listed))?;
     let Ran {
