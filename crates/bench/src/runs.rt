@@ -31,7 +31,7 @@ pub struct Cabs<E, F> {
 
 // What a unit answers to numbers that no draft takes. In System Failure it says that before all else.
 fn refuse_draft<E: TrainEnd>(unit: &Unit<E>, refusal: Refusal) -> Answer
-    ensures { result ≡ answering (Some (if failed (view E.speed_of E.line_of unit.now) then InSystemFailure else refusal)) None None 0 (view E.speed_of E.line_of unit.now) }
+    ensures { result ≡ answering (Some (if failed (view E.TrainEnd unit.now) then InSystemFailure else refusal)) None None 0 (view E.TrainEnd unit.now) }
 {
     let mut answer = unit.answer();
     answer.outcome = Some(if answer.mode == Mode::SystemFailure {
@@ -44,8 +44,8 @@ fn refuse_draft<E: TrainEnd>(unit: &Unit<E>, refusal: Refusal) -> Answer
 
 // A draft of the numbers, Yes, and the taking.
 fn take_record<E: TrainEnd>(unit: &mut Unit<E>, train: TrainRecord) -> Answer
-    ensures state { view E.speed_of E.line_of unit.new ≡ next E.reading (taken train) (view E.speed_of E.line_of unit.old) }
-    ensures answer { result ≡ reply E.reading (taken train) (view E.speed_of E.line_of unit.old) }
+    ensures state { view E.TrainEnd unit.new ≡ next E.reading (taken train) (view E.TrainEnd unit.old) }
+    ensures answer { result ≡ reply E.reading (taken train) (view E.TrainEnd unit.old) }
 {
     let draft = Draft::new(
         train.driver,
@@ -64,8 +64,8 @@ fn take_record<E: TrainEnd>(unit: &mut Unit<E>, train: TrainRecord) -> Answer
 
 // Makes one call of the unit.
 fn make_call<E: TrainEnd>(unit: &mut Unit<E>, call: &Call<'_>) -> Answer
-    ensures state { view E.speed_of E.line_of unit.new ≡ next E.reading (said call.now) (view E.speed_of E.line_of unit.old) }
-    ensures answer { result ≡ reply E.reading (said call.now) (view E.speed_of E.line_of unit.old) }
+    ensures state { view E.TrainEnd unit.new ≡ next E.reading (said call.now) (view E.TrainEnd unit.old) }
+    ensures answer { result ≡ reply E.reading (said call.now) (view E.TrainEnd unit.old) }
 {
     match *call {
         Call::Cycle(block) => unit.cycle(block),
@@ -79,8 +79,8 @@ fn make_call<E: TrainEnd>(unit: &mut Unit<E>, call: &Call<'_>) -> Answer
 // By the place's index: of what is written through `iter_mut` beside `zip` a proof knows nothing afterwards.
 fn run_into<E: TrainEnd>(unit: &mut Unit<E>, calls: &[Call<'_>], answers: &mut [Answer])
     requires { length answers.old ≡ length calls.now }
-    ensures state { view E.speed_of E.line_of unit.new ≡ after E.reading (map said calls.now) (view E.speed_of E.line_of unit.old) }
-    ensures answers { answers.new ≡ answers_of E.reading (map said calls.now) (view E.speed_of E.line_of unit.old) }
+    ensures state { view E.TrainEnd unit.new ≡ after E.reading (map said calls.now) (view E.TrainEnd unit.old) }
+    ensures answers { answers.new ≡ answers_of E.reading (map said calls.now) (view E.TrainEnd unit.old) }
 {
     for (i, call) in calls.iter().enumerate() {
         answers[i] = make_call(unit, call);
@@ -99,10 +99,10 @@ pub fn run_lent<E: TrainEnd, F: TrainEnd>(
     other_answers: &mut [Answer],
 ) -> Result<Cabs<E, F>, (E, F)>
     ensures fits { is_ok result ≡ (length answers.old == length calls.now && length other_answers.old == length others.now) }
-    ensures runs { IfOk result (λ ran. AsDefined E.TrainEnd.reading (E.TrainEnd.speed_of one) (map said calls.now) answers.new (view E.TrainEnd.speed_of E.TrainEnd.line_of ran.one) × AsDefined F.TrainEnd.reading (F.TrainEnd.speed_of other) (map said others.now) other_answers.new (view F.TrainEnd.speed_of F.TrainEnd.line_of ran.other)) }
-    ensures book { IfOk result (λ ran. ByTheBook (map said calls.now) answers.new (view E.TrainEnd.speed_of E.TrainEnd.line_of ran.one) × ByTheBook (map said others.now) other_answers.new (view F.TrainEnd.speed_of F.TrainEnd.line_of ran.other)) }
-    ensures entries { IfOk result (λ ran. ConfirmedOnce (map said calls.now) answers.new (view E.TrainEnd.speed_of E.TrainEnd.line_of ran.one) × ConfirmedOnce (map said others.now) other_answers.new (view F.TrainEnd.speed_of F.TrainEnd.line_of ran.other)) }
-    ensures likeness { IfOk result (λ ran. LikeEnds E.TrainEnd.reading (E.TrainEnd.speed_of one) (map said calls.now) answers.new (view E.TrainEnd.speed_of E.TrainEnd.line_of ran.one) F.TrainEnd.reading (F.TrainEnd.speed_of other) (map said others.now) other_answers.new (view F.TrainEnd.speed_of F.TrainEnd.line_of ran.other)) }
+    ensures runs { IfOk result (λ ran. AsDefined E.TrainEnd.reading (E.TrainEnd.speed_of one) (map said calls.now) answers.new (view E.TrainEnd ran.one) × AsDefined F.TrainEnd.reading (F.TrainEnd.speed_of other) (map said others.now) other_answers.new (view F.TrainEnd ran.other)) }
+    ensures book { IfOk result (λ ran. ByTheBook (map said calls.now) answers.new (view E.TrainEnd ran.one) × ByTheBook (map said others.now) other_answers.new (view F.TrainEnd ran.other)) }
+    ensures entries { IfOk result (λ ran. ConfirmedOnce (map said calls.now) answers.new (view E.TrainEnd ran.one) × ConfirmedOnce (map said others.now) other_answers.new (view F.TrainEnd ran.other)) }
+    ensures likeness { IfOk result (λ ran. LikeEnds E.TrainEnd.reading (E.TrainEnd.speed_of one) (map said calls.now) answers.new (view E.TrainEnd ran.one) F.TrainEnd.reading (F.TrainEnd.speed_of other) (map said others.now) other_answers.new (view F.TrainEnd ran.other)) }
     ensures back { IfErr result (λ ends. (ends.0 ≡ one) × (ends.1 ≡ other) × (answers.new ≡ answers.old) × (other_answers.new ≡ other_answers.old)) }
 {
     if answers.len() != calls.len() || other_answers.len() != others.len() {
@@ -144,10 +144,10 @@ pub fn run_both<E: TrainEnd, F: TrainEnd>(
     calls: &[Call<'_>],
     others: &[Call<'_>],
 ) -> Result<Ran<E, F>, (E, F)>
-    ensures runs { IfOk result (λ ran. AsDefined E.TrainEnd.reading (E.TrainEnd.speed_of one) (map said calls.now) ran.answers.items (view E.TrainEnd.speed_of E.TrainEnd.line_of ran.one) × AsDefined F.TrainEnd.reading (F.TrainEnd.speed_of other) (map said others.now) ran.other_answers.items (view F.TrainEnd.speed_of F.TrainEnd.line_of ran.other)) }
-    ensures book { IfOk result (λ ran. ByTheBook (map said calls.now) ran.answers.items (view E.TrainEnd.speed_of E.TrainEnd.line_of ran.one) × ByTheBook (map said others.now) ran.other_answers.items (view F.TrainEnd.speed_of F.TrainEnd.line_of ran.other)) }
-    ensures entries { IfOk result (λ ran. ConfirmedOnce (map said calls.now) ran.answers.items (view E.TrainEnd.speed_of E.TrainEnd.line_of ran.one) × ConfirmedOnce (map said others.now) ran.other_answers.items (view F.TrainEnd.speed_of F.TrainEnd.line_of ran.other)) }
-    ensures likeness { IfOk result (λ ran. LikeEnds E.TrainEnd.reading (E.TrainEnd.speed_of one) (map said calls.now) ran.answers.items (view E.TrainEnd.speed_of E.TrainEnd.line_of ran.one) F.TrainEnd.reading (F.TrainEnd.speed_of other) (map said others.now) ran.other_answers.items (view F.TrainEnd.speed_of F.TrainEnd.line_of ran.other)) }
+    ensures runs { IfOk result (λ ran. AsDefined E.TrainEnd.reading (E.TrainEnd.speed_of one) (map said calls.now) ran.answers.items (view E.TrainEnd ran.one) × AsDefined F.TrainEnd.reading (F.TrainEnd.speed_of other) (map said others.now) ran.other_answers.items (view F.TrainEnd ran.other)) }
+    ensures book { IfOk result (λ ran. ByTheBook (map said calls.now) ran.answers.items (view E.TrainEnd ran.one) × ByTheBook (map said others.now) ran.other_answers.items (view F.TrainEnd ran.other)) }
+    ensures entries { IfOk result (λ ran. ConfirmedOnce (map said calls.now) ran.answers.items (view E.TrainEnd ran.one) × ConfirmedOnce (map said others.now) ran.other_answers.items (view F.TrainEnd ran.other)) }
+    ensures likeness { IfOk result (λ ran. LikeEnds E.TrainEnd.reading (E.TrainEnd.speed_of one) (map said calls.now) ran.answers.items (view E.TrainEnd ran.one) F.TrainEnd.reading (F.TrainEnd.speed_of other) (map said others.now) ran.other_answers.items (view F.TrainEnd ran.other)) }
     ensures back { IfErr result (λ ends. (ends.0 ≡ one) × (ends.1 ≡ other)) }
 {
     let Ok(mut answers) = blank_answers(heap, calls.len()) else {

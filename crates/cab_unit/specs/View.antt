@@ -1,6 +1,6 @@
 -- What the code's own structs mean.
 use Rattle.std.specs.Prelude.{ℕ, List, None, Option}
-use Rattle.train_end.specs.declared.brake_line.BrakeLine.{BrakeLine}
+use Rattle.train_end.specs.declared.end.TrainEnd.{Ghosts as EndMeaning}
 use Rattle.train_end.specs.declared.brake_line.BrakeLine.TheVariants.{Emergency}
 use Rattle.cab_unit.specs.Moves.{Change}
 use Rattle.cab_unit.specs.Places.{ordered}
@@ -10,15 +10,15 @@ use Rattle.cab_unit.specs.declared.cab.Done.{Done}
 use Rattle.cab_unit.specs.declared.desk.Desk.{Desk}
 use Rattle.driver_desk.specs.declared.request.Request.{Request}
 
--- the state of a cab, on an end whose speed and line these are
-abbrev pub view : {E : Type 0} → (E → Option ℕ) → (E → BrakeLine) → Cab E → State
-view speed_of line_of u = record {
+-- the state of a cab, on an end of which this is the meaning
+abbrev pub view : {E : Type 0} → EndMeaning E → Cab E → State
+view meaning u = record {
   desk = u.desk;
   train = u.train;
   cycle = u.cycle;
   waiting = ordered u.waiting.items;
-  speed = speed_of u.end;
-  line = line_of u.end;
+  speed = meaning.speed_of u.end;
+  line = meaning.line_of u.end;
 }
 
 -- what an answer tells of a change

@@ -64,7 +64,7 @@ fn bit(on: bool, value: u16) -> u16
 impl<E: TrainEnd> Cab<E> {
     // Whether the level can be set by a button, and a record be taken.
     pub fn settable(&self) -> bool
-        ensures { result ≡ is_settable (view E.speed_of E.line_of self.now) }
+        ensures { result ≡ is_settable (view E.TrainEnd self.now) }
     {
         let stands = is_standing(self.end.speed());
         let unasked = self.waiting.number_of(Class::Mode) == 0;
@@ -73,7 +73,7 @@ impl<E: TrainEnd> Cab<E> {
 
     #[tactic(auto, unfolding(crate::specs::Buttons::enabled))]
     pub fn enabled(&self, button: Button) -> bool
-        ensures { result ≡ enabled (button_number button) (view E.speed_of E.line_of self.now) }
+        ensures { result ≡ enabled (button_number button) (view E.TrainEnd self.now) }
     {
         let desk = self.desk;
         let stands = is_standing(self.end.speed());
@@ -102,7 +102,7 @@ impl<E: TrainEnd> Cab<E> {
     // Added one by one: as a `sum` over a table of the nine, the proof that it fits did not close.
     #[tactic(auto, unfolding(crate::specs::Buttons::buttons_of))]
     fn buttons(&self) -> u16
-        ensures { result ≡ buttons_of (view E.speed_of E.line_of self.now) }
+        ensures { result ≡ buttons_of (view E.TrainEnd self.now) }
     {
         bit(self.enabled(Button::Acknowledge), 1)
             + bit(self.enabled(Button::Start), 2)
@@ -116,7 +116,7 @@ impl<E: TrainEnd> Cab<E> {
     }
 
     fn line_rule(&self) -> BrakeLine
-        ensures { result ≡ line_rule self.now.desk (any_overdue self.now.cycle (view E.speed_of E.line_of self.now).waiting) (waits class.Hold 0 (view E.speed_of E.line_of self.now).waiting) (view E.speed_of E.line_of self.now).speed }
+        ensures { result ≡ line_rule self.now.desk (any_overdue self.now.cycle (view E.TrainEnd self.now).waiting) (waits class.Hold 0 (view E.TrainEnd self.now).waiting) (view E.TrainEnd self.now).speed }
     {
         if matches!(self.desk.mode, Mode::Trip | Mode::SystemFailure) {
             return BrakeLine::Emergency;
@@ -133,7 +133,7 @@ impl<E: TrainEnd> Cab<E> {
     // The silence rule, then the line rule.
     #[tactic(auto, unfolding(crate::specs::Line::settled))]
     pub fn settle(&mut self)
-        ensures { view E.speed_of E.line_of self.new ≡ settled (view E.speed_of E.line_of self.old) }
+        ensures { view E.TrainEnd self.new ≡ settled (view E.TrainEnd self.old) }
     {
         if !self.desk.is_listening() {
             self.desk.silence = 0;
@@ -143,7 +143,7 @@ impl<E: TrainEnd> Cab<E> {
     }
 
     pub fn answer(&self, outcome: Option<Refusal>, done: Done) -> Answer
-        ensures { result ≡ answering outcome done.raised done.ended done.withdrawn (view E.speed_of E.line_of self.now) }
+        ensures { result ≡ answering outcome done.raised done.ended done.withdrawn (view E.TrainEnd self.now) }
     {
         Answer {
             outcome,
@@ -161,15 +161,15 @@ impl<E: TrainEnd> Cab<E> {
 
     // A refusal touches nothing.
     pub fn refuse(&self, refusal: Refusal) -> Answer
-        ensures { result ≡ answering (Some refusal) None None 0 (view E.speed_of E.line_of self.now) }
+        ensures { result ≡ answering (Some refusal) None None 0 (view E.TrainEnd self.now) }
     {
         self.answer(Some(refusal), Done::default())
     }
 
     // What was done is settled, and then answered.
     pub fn finish(&mut self, done: Done) -> Answer
-        ensures state { view E.speed_of E.line_of self.new ≡ settled (view E.speed_of E.line_of self.old) }
-        ensures answer { result ≡ answering None done.raised done.ended done.withdrawn (settled (view E.speed_of E.line_of self.old)) }
+        ensures state { view E.TrainEnd self.new ≡ settled (view E.TrainEnd self.old) }
+        ensures answer { result ≡ answering None done.raised done.ended done.withdrawn (settled (view E.TrainEnd self.old)) }
     {
         self.settle();
         self.answer(None, done)
@@ -177,8 +177,8 @@ impl<E: TrainEnd> Cab<E> {
 
     // A change of mode withdraws what waits of class mode.
     pub fn enter(&mut self, mode: Mode) -> u8
-        ensures state { view E.speed_of E.line_of self.new ≡ entered mode (view E.speed_of E.line_of self.old) }
-        ensures number { result ≡ withdrawn_at mode (view E.speed_of E.line_of self.old) }
+        ensures state { view E.TrainEnd self.new ≡ entered mode (view E.TrainEnd self.old) }
+        ensures number { result ≡ withdrawn_at mode (view E.TrainEnd self.old) }
         ensures most { result ≤ 16 }
     {
         let number = if self.desk.mode == mode {
@@ -191,10 +191,10 @@ impl<E: TrainEnd> Cab<E> {
     }
 
     pub fn raise(&mut self, class: Class, number: u8, timed: bool) -> Request
-        requires room { number_of class (view E.speed_of E.line_of self.old).waiting < limit class }
-        requires fresh { waits class number (view E.speed_of E.line_of self.old).waiting ≡ false }
-        ensures state { view E.speed_of E.line_of self.new ≡ raised_in class number timed (view E.speed_of E.line_of self.old) }
-        ensures raised { result ≡ request_in class number timed (view E.speed_of E.line_of self.old) }
+        requires room { number_of class (view E.TrainEnd self.old).waiting < limit class }
+        requires fresh { waits class number (view E.TrainEnd self.old).waiting ≡ false }
+        ensures state { view E.TrainEnd self.new ≡ raised_in class number timed (view E.TrainEnd self.old) }
+        ensures raised { result ≡ request_in class number timed (view E.TrainEnd self.old) }
     {
         let request = Request {
             class,
@@ -208,9 +208,9 @@ impl<E: TrainEnd> Cab<E> {
 
     // Raises the only request of its class. Its callers know that none of the class waits, and would each show `room` and `fresh` anew for `raise`.
     pub fn raise_alone(&mut self, class: Class, number: u8, timed: bool) -> Request
-        requires { number_of class (view E.speed_of E.line_of self.old).waiting ≡ 0 }
-        ensures state { view E.speed_of E.line_of self.new ≡ raised_in class number timed (view E.speed_of E.line_of self.old) }
-        ensures raised { result ≡ request_in class number timed (view E.speed_of E.line_of self.old) }
+        requires { number_of class (view E.TrainEnd self.old).waiting ≡ 0 }
+        ensures state { view E.TrainEnd self.new ≡ raised_in class number timed (view E.TrainEnd self.old) }
+        ensures raised { result ≡ request_in class number timed (view E.TrainEnd self.old) }
     {
         self.raise(class, number, timed)
     }

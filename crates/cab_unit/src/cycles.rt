@@ -17,7 +17,7 @@ use train_end::TrainEnd;
 impl<E: TrainEnd> Cab<E> {
     #[tactic(auto, unfolding(crate::specs::Cycles::counted))]
     fn count_silence(&mut self)
-        ensures { view E.speed_of E.line_of self.new ≡ counted (view E.speed_of E.line_of self.old) }
+        ensures { view E.TrainEnd self.new ≡ counted (view E.TrainEnd self.old) }
     {
         if self.desk.is_listening() && self.desk.silence < 401 {
             self.desk.silence += 1;
@@ -27,10 +27,10 @@ impl<E: TrainEnd> Cab<E> {
     // A standing train has no authority after 401 silent cycles. A moving one is held in Standby and Post Trip, and tripped in a supervised mode without authority.
     #[tactic(auto, unfolding(crate::specs::Cycles::lapsed, crate::specs::Cycles::watched))]
     fn watch(&mut self) -> Done
-        requires untripped { is_mode self.old.desk.mode modes.Trip ≡ false → number_of class.Trip (view E.speed_of E.line_of self.old).waiting ≡ 0 }
-        requires unheld { waits class.Hold 0 (view E.speed_of E.line_of self.old).waiting ≡ false → number_of class.Hold (view E.speed_of E.line_of self.old).waiting ≡ 0 }
-        ensures state { view E.speed_of E.line_of self.new ≡ (watched (lapsed (view E.speed_of E.line_of self.old))).state }
-        ensures done { result ≡ done_of (watched (lapsed (view E.speed_of E.line_of self.old))) }
+        requires untripped { is_mode self.old.desk.mode modes.Trip ≡ false → number_of class.Trip (view E.TrainEnd self.old).waiting ≡ 0 }
+        requires unheld { waits class.Hold 0 (view E.TrainEnd self.old).waiting ≡ false → number_of class.Hold (view E.TrainEnd self.old).waiting ≡ 0 }
+        ensures state { view E.TrainEnd self.new ≡ (watched (lapsed (view E.TrainEnd self.old))).state }
+        ensures done { result ≡ done_of (watched (lapsed (view E.TrainEnd self.old))) }
     {
         let speed = self.end.speed();
         match self.desk.mode {
@@ -55,8 +55,8 @@ impl<E: TrainEnd> Cab<E> {
 
     // System Failure: all requests are withdrawn, authority and any pending start end.
     fn fail(&mut self) -> Done
-        ensures state { view E.speed_of E.line_of self.new ≡ failing (view E.speed_of E.line_of self.old) }
-        ensures done { result ≡ done_with None None (length (view E.speed_of E.line_of self.old).waiting) }
+        ensures state { view E.TrainEnd self.new ≡ failing (view E.TrainEnd self.old) }
+        ensures done { result ≡ done_with None None (length (view E.TrainEnd self.old).waiting) }
     {
         self.desk.mode = Mode::SystemFailure;
         self.desk.authority = false;
@@ -67,9 +67,9 @@ impl<E: TrainEnd> Cab<E> {
     // What an accepted cycle does: the block's speed, silence, and what the train asks for; at the last cycle number the unit fails.
     #[tactic(auto, unfolding(crate::specs::Cycles::cycle_change))]
     pub fn cycle_change(&mut self, block: &[u8]) -> Done
-        requires { ∥ Facts (view E.speed_of E.line_of self.old) ∥₁ }
-        ensures state { view E.speed_of E.line_of self.new ≡ (cycle_change (E.reading block.now) (view E.speed_of E.line_of self.old)).state }
-        ensures done { result ≡ done_of (cycle_change (E.reading block.now) (view E.speed_of E.line_of self.old)) }
+        requires { ∥ Facts (view E.TrainEnd self.old) ∥₁ }
+        ensures state { view E.TrainEnd self.new ≡ (cycle_change (E.reading block.now) (view E.TrainEnd self.old)).state }
+        ensures done { result ≡ done_of (cycle_change (E.reading block.now) (view E.TrainEnd self.old)) }
     {
         if self.cycle < u32::MAX {
             self.cycle += 1;

@@ -35,7 +35,7 @@ fn hearing(listed: bool, heard: bool) -> Option<Refusal>
 
 impl<E: TrainEnd> Cab<E> {
     fn text_refusal(&self, number: u8, wanted: bool) -> Option<Refusal>
-        ensures { result ≡ text_refusal number wanted (view E.speed_of E.line_of self.now) }
+        ensures { result ≡ text_refusal number wanted (view E.TrainEnd self.now) }
     {
         if !wanted {
             None
@@ -49,7 +49,7 @@ impl<E: TrainEnd> Cab<E> {
     }
 
     fn withdrawal_refusal(&self, number: u8) -> Option<Refusal>
-        ensures { result ≡ order_refusal (orders.OrderValue.withdrawal number) (view E.speed_of E.line_of self.now) }
+        ensures { result ≡ order_refusal (orders.OrderValue.withdrawal number) (view E.TrainEnd self.now) }
     {
         if !self.waiting.holds(Class::Text, number) {
             Some(Refusal::NoSuchText)
@@ -62,7 +62,7 @@ impl<E: TrainEnd> Cab<E> {
 
     // A refusal or none, as the definitions and an answer's outcome have it; so is what it asks above. A Result with nothing in Ok would be no shorter.
     pub fn order_refusal(&self, order: Order<'_>) -> Option<Refusal>
-        ensures { result ≡ refusal_of (events.Event.order (value_of order.entry)) (view E.speed_of E.line_of self.now) }
+        ensures { result ≡ refusal_of (events.Event.order (value_of order.entry)) (view E.TrainEnd self.now) }
     {
         match (self.desk.mode, order) {
             (Mode::SystemFailure, _) => Some(Refusal::InSystemFailure),
@@ -85,8 +85,8 @@ impl<E: TrainEnd> Cab<E> {
     // Another mode is entered, and all but Full Supervision ask the driver.
     #[tactic(auto, unfolding(crate::specs::Orders::authority_change))]
     fn go_on_in(&mut self, mode: Mode) -> Done
-        ensures state { view E.speed_of E.line_of self.new ≡ (authority_change mode (view E.speed_of E.line_of self.old)).state }
-        ensures done { result ≡ done_of (authority_change mode (view E.speed_of E.line_of self.old)) }
+        ensures state { view E.TrainEnd self.new ≡ (authority_change mode (view E.TrainEnd self.old)).state }
+        ensures done { result ≡ done_of (authority_change mode (view E.TrainEnd self.old)) }
     {
         if self.desk.mode == mode {
             return Done::default();
@@ -100,8 +100,8 @@ impl<E: TrainEnd> Cab<E> {
     }
 
     fn authority(&mut self, mode: Mode) -> Done
-        ensures state { view E.speed_of E.line_of self.new ≡ (authority_change mode (authorized (view E.speed_of E.line_of self.old))).state }
-        ensures done { result ≡ done_of (authority_change mode (authorized (view E.speed_of E.line_of self.old))) }
+        ensures state { view E.TrainEnd self.new ≡ (authority_change mode (authorized (view E.TrainEnd self.old))).state }
+        ensures done { result ≡ done_of (authority_change mode (authorized (view E.TrainEnd self.old))) }
     {
         self.desk.authority = true;
         self.desk.pending = false;
@@ -113,8 +113,8 @@ impl<E: TrainEnd> Cab<E> {
     fn change_level(&mut self, level: Level) -> Done
         requires fitted { is_level level levels.Zero ≡ true → is_mode self.old.desk.mode modes.Unfitted ≡ false }
         requires responsible { is_level self.old.desk.level levels.Zero ≡ true → is_mode self.old.desk.mode modes.StaffResponsible ≡ false }
-        ensures state { view E.speed_of E.line_of self.new ≡ (level_change self.old.desk.level level (view E.speed_of E.line_of self.old)).state }
-        ensures done { result ≡ done_of (level_change self.old.desk.level level (view E.speed_of E.line_of self.old)) }
+        ensures state { view E.TrainEnd self.new ≡ (level_change self.old.desk.level level (view E.TrainEnd self.old)).state }
+        ensures done { result ≡ done_of (level_change self.old.desk.level level (view E.TrainEnd self.old)) }
     {
         let old = self.desk.level;
         self.desk.level = level;
@@ -135,9 +135,9 @@ impl<E: TrainEnd> Cab<E> {
     }
 
     fn text(&mut self, number: u8, wanted: bool) -> Done
-        requires { text_refusal number wanted (view E.speed_of E.line_of self.old) ≡ None }
-        ensures state { view E.speed_of E.line_of self.new ≡ (text_change number wanted (view E.speed_of E.line_of self.old)).state }
-        ensures done { result ≡ done_of (text_change number wanted (view E.speed_of E.line_of self.old)) }
+        requires { text_refusal number wanted (view E.TrainEnd self.old) ≡ None }
+        ensures state { view E.TrainEnd self.new ≡ (text_change number wanted (view E.TrainEnd self.old)).state }
+        ensures done { result ≡ done_of (text_change number wanted (view E.TrainEnd self.old)) }
     {
         if !wanted {
             return Done::default();
@@ -147,17 +147,17 @@ impl<E: TrainEnd> Cab<E> {
     }
 
     fn withdraw_text(&mut self, number: u8) -> Done
-        requires { waits class.Text number (view E.speed_of E.line_of self.old).waiting ≡ true }
-        ensures state { view E.speed_of E.line_of self.new ≡ (order_change (orders.OrderValue.withdrawal number) (view E.speed_of E.line_of self.old)).state }
-        ensures done { result ≡ done_of (order_change (orders.OrderValue.withdrawal number) (view E.speed_of E.line_of self.old)) }
+        requires { waits class.Text number (view E.TrainEnd self.old).waiting ≡ true }
+        ensures state { view E.TrainEnd self.new ≡ (order_change (orders.OrderValue.withdrawal number) (view E.TrainEnd self.old)).state }
+        ensures done { result ≡ done_of (order_change (orders.OrderValue.withdrawal number) (view E.TrainEnd self.old)) }
     {
         Done::withdrawing(self.waiting.withdraw_text(number))
     }
 
     fn stop(&mut self) -> Done
-        requires { number_of class.Trip (view E.speed_of E.line_of self.old).waiting ≡ 0 }
-        ensures state { view E.speed_of E.line_of self.new ≡ (order_change orders.OrderValue.stop (view E.speed_of E.line_of self.old)).state }
-        ensures done { result ≡ done_of (order_change orders.OrderValue.stop (view E.speed_of E.line_of self.old)) }
+        requires { number_of class.Trip (view E.TrainEnd self.old).waiting ≡ 0 }
+        ensures state { view E.TrainEnd self.new ≡ (order_change orders.OrderValue.stop (view E.TrainEnd self.old)).state }
+        ensures done { result ≡ done_of (order_change orders.OrderValue.stop (view E.TrainEnd self.old)) }
     {
         let withdrawn = self.enter(Mode::Trip);
         self.desk.authority = false;
@@ -166,9 +166,9 @@ impl<E: TrainEnd> Cab<E> {
     }
 
     fn permission(&mut self) -> Done
-        requires { number_of class.Mode (view E.speed_of E.line_of self.old).waiting ≡ 0 }
-        ensures state { view E.speed_of E.line_of self.new ≡ (order_change orders.OrderValue.permission (view E.speed_of E.line_of self.old)).state }
-        ensures done { result ≡ done_of (order_change orders.OrderValue.permission (view E.speed_of E.line_of self.old)) }
+        requires { number_of class.Mode (view E.TrainEnd self.old).waiting ≡ 0 }
+        ensures state { view E.TrainEnd self.new ≡ (order_change orders.OrderValue.permission (view E.TrainEnd self.old)).state }
+        ensures done { result ≡ done_of (order_change orders.OrderValue.permission (view E.TrainEnd self.old)) }
     {
         self.desk.pending = false;
         let request = self.raise_alone(Class::Mode, Mode::StaffResponsible.code(), false);
@@ -179,8 +179,8 @@ impl<E: TrainEnd> Cab<E> {
     fn level(&mut self, number: u8) -> Done
         requires fitted { is_mode self.old.desk.mode modes.Unfitted ≡ true → is_level self.old.desk.level levels.Zero ≡ true }
         requires responsible { is_level self.old.desk.level levels.Zero ≡ true → is_mode self.old.desk.mode modes.StaffResponsible ≡ false }
-        ensures state { view E.speed_of E.line_of self.new ≡ (order_change (orders.OrderValue.level number) (view E.speed_of E.line_of self.old)).state }
-        ensures done { result ≡ done_of (order_change (orders.OrderValue.level number) (view E.speed_of E.line_of self.old)) }
+        ensures state { view E.TrainEnd self.new ≡ (order_change (orders.OrderValue.level number) (view E.TrainEnd self.old)).state }
+        ensures done { result ≡ done_of (order_change (orders.OrderValue.level number) (view E.TrainEnd self.old)) }
     {
         let level = level_numbered(number);
         if level == self.desk.level {
@@ -191,10 +191,10 @@ impl<E: TrainEnd> Cab<E> {
 
     // What an accepted order does.
     pub fn order_change(&mut self, order: Order<'_>) -> Done
-        requires facts { ∥ Facts (view E.speed_of E.line_of self.old) ∥₁ }
-        requires accepted { refusal_of (events.Event.order (value_of order)) (view E.speed_of E.line_of self.old) ≡ None }
-        ensures state { view E.speed_of E.line_of self.new ≡ (order_change (value_of order.entry) (view E.speed_of E.line_of self.old)).state }
-        ensures done { result ≡ done_of (order_change (value_of order.entry) (view E.speed_of E.line_of self.old)) }
+        requires facts { ∥ Facts (view E.TrainEnd self.old) ∥₁ }
+        requires accepted { refusal_of (events.Event.order (value_of order)) (view E.TrainEnd self.old) ≡ None }
+        ensures state { view E.TrainEnd self.new ≡ (order_change (value_of order.entry) (view E.TrainEnd self.old)).state }
+        ensures done { result ≡ done_of (order_change (value_of order.entry) (view E.TrainEnd self.old)) }
     {
         match order {
             Order::Authority(mode) => self.authority(mode),

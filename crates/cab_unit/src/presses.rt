@@ -34,7 +34,7 @@ fn entered_by(ended: Option<Request>) -> Option<Mode>
 impl<E: TrainEnd> Cab<E> {
     // The button pressed, or why the press is refused.
     pub fn pressed(&self, number: u8) -> Result<Button, Refusal>
-        ensures { MatchResult result (λ b. (button_number b ≡ number) × (None ≡ refusal_of (events.Event.press number) (view E.speed_of E.line_of self.now))) (λ e. Some e ≡ refusal_of (events.Event.press number) (view E.speed_of E.line_of self.now)) }
+        ensures { MatchResult result (λ b. (button_number b ≡ number) × (None ≡ refusal_of (events.Event.press number) (view E.TrainEnd self.now))) (λ e. Some e ≡ refusal_of (events.Event.press number) (view E.TrainEnd self.now)) }
     {
         match (self.desk.mode, Button::try_from(number)) {
             (Mode::SystemFailure, _) => Err(Refusal::InSystemFailure),
@@ -45,8 +45,8 @@ impl<E: TrainEnd> Cab<E> {
 
     #[tactic(auto, unfolding(crate::specs::Presses::acknowledge_change))]
     fn acknowledge(&mut self) -> Done
-        ensures state { view E.speed_of E.line_of self.new ≡ (acknowledge_change (view E.speed_of E.line_of self.old)).state }
-        ensures done { result ≡ done_of (acknowledge_change (view E.speed_of E.line_of self.old)) }
+        ensures state { view E.TrainEnd self.new ≡ (acknowledge_change (view E.TrainEnd self.old)).state }
+        ensures done { result ≡ done_of (acknowledge_change (view E.TrainEnd self.old)) }
     {
         let ended = self.waiting.end_first();
         let withdrawn = match entered_by(ended) {
@@ -61,9 +61,9 @@ impl<E: TrainEnd> Cab<E> {
 
     #[tactic(auto, unfolding(crate::specs::Presses::start_change))]
     fn start(&mut self) -> Done
-        requires { number_of class.Mode (view E.speed_of E.line_of self.old).waiting ≡ 0 }
-        ensures state { view E.speed_of E.line_of self.new ≡ (start_change (view E.speed_of E.line_of self.old)).state }
-        ensures done { result ≡ done_of (start_change (view E.speed_of E.line_of self.old)) }
+        requires { number_of class.Mode (view E.TrainEnd self.old).waiting ≡ 0 }
+        ensures state { view E.TrainEnd self.new ≡ (start_change (view E.TrainEnd self.old)).state }
+        ensures done { result ≡ done_of (start_change (view E.TrainEnd self.old)) }
     {
         let request = match self.desk.level {
             Level::Two => {
@@ -77,8 +77,8 @@ impl<E: TrainEnd> Cab<E> {
     }
 
     fn close_desk(&mut self) -> Done
-        ensures state { view E.speed_of E.line_of self.new ≡ (close_change (view E.speed_of E.line_of self.old)).state }
-        ensures done { result ≡ done_of (close_change (view E.speed_of E.line_of self.old)) }
+        ensures state { view E.TrainEnd self.new ≡ (close_change (view E.TrainEnd self.old)).state }
+        ensures done { result ≡ done_of (close_change (view E.TrainEnd self.old)) }
     {
         self.desk.mode = Mode::Standby;
         self.desk.authority = false;
@@ -93,9 +93,9 @@ impl<E: TrainEnd> Cab<E> {
     // What an accepted press does.
     #[tactic(auto, unfolding(crate::specs::Presses::press_change))]
     pub fn press_change(&mut self, button: Button) -> Done
-        requires { is_enabled (button_number button) (view E.speed_of E.line_of self.old) ≡ true }
-        ensures state { view E.speed_of E.line_of self.new ≡ (press_change (button_number button) (view E.speed_of E.line_of self.old)).state }
-        ensures done { result ≡ done_of (press_change (button_number button) (view E.speed_of E.line_of self.old)) }
+        requires { is_enabled (button_number button) (view E.TrainEnd self.old) ≡ true }
+        ensures state { view E.TrainEnd self.new ≡ (press_change (button_number button) (view E.TrainEnd self.old)).state }
+        ensures done { result ≡ done_of (press_change (button_number button) (view E.TrainEnd self.old)) }
     {
         match button {
             Button::Acknowledge => self.acknowledge(),

@@ -25,7 +25,7 @@ pub struct Unit<E> {
 
 impl<E: TrainEnd> Unit<E> {
     pub fn switch_on(end: E) -> Unit<E>
-        ensures { view E.speed_of E.line_of result.cab ≡ switched_on (E.speed_of end) }
+        ensures { view E.TrainEnd result.cab ≡ switched_on (E.speed_of end) }
     {
         let desk = Desk {
             mode: Mode::Standby,
@@ -65,15 +65,15 @@ impl<E: TrainEnd> Unit<E> {
 
     // What the unit shows, between calls.
     pub fn answer(&self) -> Answer
-        ensures { result ≡ answering None None None 0 (view E.speed_of E.line_of self.now.cab) }
+        ensures { result ≡ answering None None None 0 (view E.TrainEnd self.now.cab) }
     {
         self.cab.answer(None, Done::default())
     }
 
     pub fn press(&mut self, button: u8) -> Answer
-        ensures state { view E.speed_of E.line_of self.new.cab ≡ next E.reading (events.Event.press button) (view E.speed_of E.line_of self.old.cab) }
-        ensures answer { result ≡ reply E.reading (events.Event.press button) (view E.speed_of E.line_of self.old.cab) }
-        ensures refused { is_some (refusal_of (events.Event.press button) (view E.speed_of E.line_of self.old.cab)) ≡ true → self.new.cab ≡ self.old.cab }
+        ensures state { view E.TrainEnd self.new.cab ≡ next E.reading (events.Event.press button) (view E.TrainEnd self.old.cab) }
+        ensures answer { result ≡ reply E.reading (events.Event.press button) (view E.TrainEnd self.old.cab) }
+        ensures refused { is_some (refusal_of (events.Event.press button) (view E.TrainEnd self.old.cab)) ≡ true → self.new.cab ≡ self.old.cab }
     {
         match self.cab.pressed(button) {
             Err(refusal) => self.cab.refuse(refusal),
@@ -85,9 +85,9 @@ impl<E: TrainEnd> Unit<E> {
     }
 
     pub fn order(&mut self, order: Order<'_>) -> Answer
-        ensures state { view E.speed_of E.line_of self.new.cab ≡ next E.reading (events.Event.order (value_of order.entry)) (view E.speed_of E.line_of self.old.cab) }
-        ensures answer { result ≡ reply E.reading (events.Event.order (value_of order.entry)) (view E.speed_of E.line_of self.old.cab) }
-        ensures refused { is_some (refusal_of (events.Event.order (value_of order.entry)) (view E.speed_of E.line_of self.old.cab)) ≡ true → self.new.cab ≡ self.old.cab }
+        ensures state { view E.TrainEnd self.new.cab ≡ next E.reading (events.Event.order (value_of order.entry)) (view E.TrainEnd self.old.cab) }
+        ensures answer { result ≡ reply E.reading (events.Event.order (value_of order.entry)) (view E.TrainEnd self.old.cab) }
+        ensures refused { is_some (refusal_of (events.Event.order (value_of order.entry)) (view E.TrainEnd self.old.cab)) ≡ true → self.new.cab ≡ self.old.cab }
     {
         match self.cab.order_refusal(order) {
             Some(refusal) => self.cab.refuse(refusal),
@@ -99,9 +99,9 @@ impl<E: TrainEnd> Unit<E> {
     }
 
     pub fn cycle(&mut self, block: &[u8]) -> Answer
-        ensures state { view E.speed_of E.line_of self.new.cab ≡ next E.reading (events.Event.cycle block.now) (view E.speed_of E.line_of self.old.cab) }
-        ensures answer { result ≡ reply E.reading (events.Event.cycle block.now) (view E.speed_of E.line_of self.old.cab) }
-        ensures refused { is_some (refusal_of (events.Event.cycle block.now) (view E.speed_of E.line_of self.old.cab)) ≡ true → self.new.cab ≡ self.old.cab }
+        ensures state { view E.TrainEnd self.new.cab ≡ next E.reading (events.Event.cycle block.now) (view E.TrainEnd self.old.cab) }
+        ensures answer { result ≡ reply E.reading (events.Event.cycle block.now) (view E.TrainEnd self.old.cab) }
+        ensures refused { is_some (refusal_of (events.Event.cycle block.now) (view E.TrainEnd self.old.cab)) ≡ true → self.new.cab ≡ self.old.cab }
     {
         if self.cab.desk.mode == Mode::SystemFailure {
             return self.cab.refuse(Refusal::InSystemFailure);
@@ -112,9 +112,9 @@ impl<E: TrainEnd> Unit<E> {
 
     // Uses the record up where it is taken, in place of any held before, and hands it back where it is not.
     pub fn take(&mut self, confirmed: Confirmed) -> Result<Answer, (Answer, Confirmed)>
-        ensures state { view E.speed_of E.line_of self.new.cab ≡ next E.reading (events.Event.take confirmed.train) (view E.speed_of E.line_of self.old.cab) }
-        ensures answer { MatchResult result (λ a. (a ≡ reply E.reading (events.Event.take confirmed.train) (view E.speed_of E.line_of self.old.cab)) × (refusal_of (events.Event.take confirmed.train) (view E.speed_of E.line_of self.old.cab) ≡ None)) (λ b. (b.0 ≡ reply E.reading (events.Event.take confirmed.train) (view E.speed_of E.line_of self.old.cab)) × (is_some (refusal_of (events.Event.take confirmed.train) (view E.speed_of E.line_of self.old.cab)) ≡ true) × (b.1 ≡ confirmed)) }
-        ensures refused { is_some (refusal_of (events.Event.take confirmed.train) (view E.speed_of E.line_of self.old.cab)) ≡ true → self.new.cab ≡ self.old.cab }
+        ensures state { view E.TrainEnd self.new.cab ≡ next E.reading (events.Event.take confirmed.train) (view E.TrainEnd self.old.cab) }
+        ensures answer { MatchResult result (λ a. (a ≡ reply E.reading (events.Event.take confirmed.train) (view E.TrainEnd self.old.cab)) × (refusal_of (events.Event.take confirmed.train) (view E.TrainEnd self.old.cab) ≡ None)) (λ b. (b.0 ≡ reply E.reading (events.Event.take confirmed.train) (view E.TrainEnd self.old.cab)) × (is_some (refusal_of (events.Event.take confirmed.train) (view E.TrainEnd self.old.cab)) ≡ true) × (b.1 ≡ confirmed)) }
+        ensures refused { is_some (refusal_of (events.Event.take confirmed.train) (view E.TrainEnd self.old.cab)) ≡ true → self.new.cab ≡ self.old.cab }
     {
         if self.cab.desk.mode == Mode::SystemFailure {
             return Err((self.cab.refuse(Refusal::InSystemFailure), confirmed));

@@ -2,7 +2,7 @@ use cab_unit::Call;
 use call_list::{Entry, Listed};
 use driver_desk::{Draft, Refusal};
 use std::alloc::{AllocError, Global};
-use telegram::{Fault, Refused, read_all};
+use telegram::{Fault, Placed, Refused, read_all};
 
 // One of the two cabs.
 #[derive(Clone, Copy)]
@@ -18,13 +18,6 @@ impl Cab {
             Cab::Pulse => "pulse",
         }
     }
-}
-
-// The places of the first byte of an order in its telegram, and of the byte after it.
-#[derive(Clone, Copy)]
-pub struct Places {
-    pub first: usize,
-    pub after: usize,
 }
 
 // What is told that is no call of the unit: a draft that was refused, or how the reading of a telegram ended.
@@ -68,12 +61,12 @@ pub struct Row<C> {
     pub told: Told<C>,
 }
 
-// The calls of one cab, and the rows that tell of them. A row of a call takes the next one, and has the places of a telegram's order.
+// The calls of one cab, and the rows that tell of them. A row of a call takes the next one; an order of a telegram stands there as it was read.
 // The calls stand by themselves, since a run takes them as a slice.
 #[derive(Drop)]
 pub struct Plan<'a> {
     pub calls: Vec<Call<'a>>,
-    pub rows: Vec<Row<Option<Places>>>,
+    pub rows: Vec<Row<Option<Placed<'a>>>>,
 }
 
 impl<'a> Plan<'a> {
@@ -123,11 +116,7 @@ impl<'a> Plan<'a> {
     ) -> Result<(), AllocError> {
         let reading = read_all(heap, bytes)?;
         for placed in &reading.orders {
-            let places = Places {
-                first: placed.first,
-                after: placed.after,
-            };
-            self.add_call(line, Call::Order(placed.order), Some(places))?;
+            self.add_call(line, Call::Order(placed.order), Some(*placed))?;
         }
         let note = match reading.ending {
             Ok(place) => Note::End { place },
@@ -140,17 +129,17 @@ impl<'a> Plan<'a> {
         &mut self,
         line: usize,
         call: Call<'a>,
-        places: Option<Places>,
+        placed: Option<Placed<'a>>,
     ) -> Result<(), AllocError> {
         self.calls.push(call)?;
-        self.add_row(line, Told::Call(places))
+        self.add_row(line, Told::Call(placed))
     }
 
     fn add_note(&mut self, line: usize, note: Note) -> Result<(), AllocError> {
         self.add_row(line, Told::Note(note))
     }
 
-    fn add_row(&mut self, line: usize, told: Told<Option<Places>>) -> Result<(), AllocError> {
+    fn add_row(&mut self, line: usize, told: Told<Option<Placed<'a>>>) -> Result<(), AllocError> {
         self.rows.push(Row { line, told })?;
         Ok(())
     }

@@ -1,10 +1,11 @@
 ghost use Rattle.std.specs.Prelude.{length};
 ghost use Rattle.std.specs.Iterator.{at_most};
 
-use crate::plan::{Places, Plan, Row, Told};
+use crate::plan::{Plan, Row, Told};
 use cab_unit::{Call, Unit};
 use compare::Run;
 use driver_desk::Answer;
+use telegram::Placed;
 use train_end::TrainEnd;
 
 // What one cab was asked and answered, that after switching on first.
@@ -44,18 +45,18 @@ impl<'p, 'c> Side<'p, 'c> {
     }
 }
 
-// A call of the unit with its answer; an order of a telegram has its places there.
+// A call of the unit with its answer; an order of a telegram as it was read there.
 #[derive(Clone, Copy)]
 pub struct Answered<'c> {
     pub call: Call<'c>,
-    pub places: Option<Places>,
+    pub placed: Option<Placed<'c>>,
     pub answer: Answer,
 }
 
 // The rows of one cab in their order: each that tells of a call takes the next call and its answer.
 #[derive(Drop)]
 pub struct Rows<'p> {
-    planned: &'p [Row<Option<Places>>],
+    planned: &'p [Row<Option<Placed<'p>>>],
     run: Run<'p>,
 }
 
@@ -67,9 +68,9 @@ impl<'p> Iterator for Rows<'p> {
     fn next(&mut self) -> Option<Row<Answered<'p>>> {
         let Row { line, told } = *self.planned.split_off_first()?;
         let told = match told {
-            Told::Call(places) => Told::Call(Answered {
+            Told::Call(placed) => Told::Call(Answered {
                 call: *self.run.calls.split_off_first()?,
-                places,
+                placed,
                 answer: *self.run.answers.split_off_first()?,
             }),
             Told::Note(note) => Told::Note(note),

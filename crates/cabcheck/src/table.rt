@@ -1,5 +1,5 @@
 use crate::messages::{FREE, Messages, ROWS};
-use crate::plan::{Cab, Note, Places, Row, Told};
+use crate::plan::{Cab, Note, Row, Told};
 use crate::side::{Answered, Side};
 use crate::words::{CallWords, RequestWords, outcome_number};
 use cab_unit::Call;
@@ -9,23 +9,24 @@ use itertools::Itertools;
 use std::alloc::Global;
 use std::io::Write;
 use std::{fmt, io};
+use telegram::Placed;
 use train_end::{BusEnd, PulseEnd};
 
 // What stands behind the requests: the places of a telegram's order, or what the two ends read in the blocks of a cycle.
 // Blank is a case of its own, since it is printed too, and an Option can't be given a Display here.
 #[derive(Clone, Copy)]
-enum Column {
+enum Column<'c> {
     Blank,
-    Places(Places),
+    Placed(Placed<'c>),
     Speeds {
         bus: Option<u16>,
         pulse: Option<u16>,
     },
 }
 
-impl Column {
+impl Column<'_> {
     // What the two ends read, where both rows tell of cycles.
-    fn of_cycles(told: &Told<Answered<'_>>, other: &Told<Answered<'_>>) -> Column {
+    fn of_cycles(told: &Told<Answered<'_>>, other: &Told<Answered<'_>>) -> Self {
         match (*told, *other) {
             (
                 Told::Call(
@@ -49,11 +50,11 @@ impl Column {
     }
 }
 
-impl fmt::Display for Column {
+impl fmt::Display for Column<'_> {
     fn fmt<W: fmt::Write>(&self, f: &mut fmt::Formatter<W>) -> fmt::Result {
         match *self {
             Column::Blank => f.write_str("             "),
-            Column::Places(Places { first, after }) => write!(f, " {first:>4} to {after:<4}"),
+            Column::Placed(Placed { first, after, .. }) => write!(f, " {first:>4} to {after:<4}"),
             Column::Speeds { bus, pulse } => {
                 let sign = if bus == pulse { "= " } else { "<>" };
                 let bus = Speed(bus);
@@ -131,7 +132,7 @@ impl<W: Write> Table<'_, W> {
         line: usize,
         cab: &str,
         call: &str,
-        column: Column,
+        column: Column<'_>,
         answer: &Answer,
     ) -> io::Result<()> {
         let outcome = outcome_number(answer.outcome);
@@ -154,7 +155,7 @@ impl<W: Write> Table<'_, W> {
         &mut self,
         cab: &str,
         row: Option<Row<Answered<'_>>>,
-        column: Column,
+        column: Column<'_>,
     ) -> io::Result<()> {
         let Some(Row { line, told }) = row else {
             return write!(self.out, "     - {cab:<5} nothing");
@@ -163,7 +164,7 @@ impl<W: Write> Table<'_, W> {
             Told::Call(answered) => {
                 let call = CallWords(answered.call);
                 let call = format!(in self.heap; "{call}")?;
-                let column = answered.places.map_or(column, Column::Places);
+                let column = answered.placed.map_or(column, Column::Placed);
                 self.print_answer(line, cab, call.as_str(), column, &answered.answer)
             }
             Told::Note(note) => {

@@ -16,6 +16,6 @@ returns-clause-likeness g c =
     let e : take places.len (news.answers ++ drop (length news.answers) places.items) ≡ news.answers = grind (arith, common_steps, take-append_seam) in
     let e' : take places'.len (news.other_answers ++ drop (length news.other_answers) places'.items) ≡ news.other_answers = grind (arith, common_steps, take-append_seam) in
     subst₂
-    (λ (as' bs : List Answer). LikeEnds g.E.TrainEnd.reading (g.E.TrainEnd.speed_of c.args.one) (map said c.args.calls.now) as' (view g.E.TrainEnd.speed_of g.E.TrainEnd.line_of c.in_ok-one.field-0.one)
-    g.F.TrainEnd.reading (g.F.TrainEnd.speed_of c.args.other) (map said c.args.others.now) bs (view g.F.TrainEnd.speed_of g.F.TrainEnd.line_of c.in_ok-one.field-0.other))
+    (λ (as' bs : List Answer). LikeEnds g.E.TrainEnd.reading (g.E.TrainEnd.speed_of c.args.one) (map said c.args.calls.now) as' (view g.E.TrainEnd c.in_ok-one.field-0.one)
+    g.F.TrainEnd.reading (g.F.TrainEnd.speed_of c.args.other) (map said c.args.others.now) bs (view g.F.TrainEnd c.in_ok-one.field-0.other))
     (sym e) (sym e') c.in_ok-one.ensures.likeness

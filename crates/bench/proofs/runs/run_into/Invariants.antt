@@ -7,8 +7,8 @@ use Rattle.bench.proofs.runs.run_into.Given as goal
 abbrev pub invariant-loop-i : goal.invariant-loop-i
 invariant-loop-i g l =
     let e = g.E.TrainEnd in
-    let s = view e.speed_of e.line_of l.unit in
-    let s₀ = view e.speed_of e.line_of l.initial.unit in
+    let s = view e l.unit in
+    let s₀ = view e l.initial.unit in
     let rest = map said (drop l.i l.calls) in
     (after e.reading rest s ≡ after e.reading (map said l.calls) s₀)
     × (take l.i l.answers ++ answers e.reading rest s ≡ answers e.reading (map said l.calls) s₀)

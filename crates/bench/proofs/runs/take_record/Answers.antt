@@ -7,7 +7,7 @@ use Rattle.bench.proofs.runs.take_record.Goals as goal
 pub returns-in-Err-take : goal.returns-in-Err-take
 returns-in-Err-take g c =
     let reads = g.E.TrainEnd.reading in
-    let s = view g.E.TrainEnd.speed_of g.E.TrainEnd.line_of c.args.unit.now in
+    let s = view g.E.TrainEnd c.args.unit.now in
     let e : take c.yes.result.train ≡ take c.args.train = ap take (c.yes.ensures ∙ c.in-Ok.ensures.0) in
     record {
       state = c.take.ensures.state ∙ ap (λ x. next reads x s) e;

@@ -5,6 +5,6 @@ use Rattle.cab_unit.proofs.cab.Cab.cycle_change.Goals as goal
 
 pub watch-requires : goal.watch-requires
 watch-requires g c =
-    let see = view g.E.TrainEnd.speed_of g.E.TrainEnd.line_of in
+    let see = view g.E.TrainEnd in
     let room = watch_room (see c.args.self.now) _ (see c.count_silence.new.self) c.requires refl refl c.count_silence.ensures in
     record { untripped = room.0; unheld = room.1 }

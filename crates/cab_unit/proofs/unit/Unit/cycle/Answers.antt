@@ -9,7 +9,7 @@ pub invariant_of-self : goal.invariant_of-self
 invariant_of-self g c =
     let reads = g.E.TrainEnd.reading in
     let e : Event = cycle c.args.block.now in
-    let see = view g.E.TrainEnd.speed_of g.E.TrainEnd.line_of in
+    let see = view g.E.TrainEnd in
     let s = see c.args.self.now.cab in
     let state : see c.finish.new.self ≡ next reads e s = search rules in
     record { facts = facts_after reads e s (see c.finish.new.self) c.args.self.now.facts state }
