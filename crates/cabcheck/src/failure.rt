@@ -1,6 +1,6 @@
 use call_list::{ListFault, Wrong};
 use std::alloc::AllocError;
-use std::io;
+use std::{fmt, io};
 
 // Why there is no answer to what was asked.
 #[derive(Drop)]
@@ -16,8 +16,7 @@ pub enum Failure<'n> {
         wrong: Wrong,
     },
     NoMemory,
-    // Told by the status alone: output cannot be written, or memory is wanting for a plan, or to compare and print what was run.
-    Unsaid,
+    Output(io::Error),
 }
 
 impl<'n> Failure<'n> {
@@ -28,26 +27,35 @@ impl<'n> Failure<'n> {
         }
     }
 
-    // Says on standard error what went wrong. No Display: Unsaid has no words, and eprintln! would print an empty line for it.
-    pub fn say(&self, rt: &HostRuntime) -> io::Result<()> {
+    // Whoever read the output has closed it, and needs no word on that.
+    pub fn is_closed_output(&self) -> bool {
+        matches!(self, Failure::Output(error) if error.kind() == io::ErrorKind::BrokenPipe)
+    }
+}
+
+impl fmt::Display for Failure<'_> {
+    fn fmt<W: fmt::Write>(&self, f: &mut fmt::Formatter<W>) -> fmt::Result {
         match self {
-            Failure::Options(error) => eprintln!(rt; "cabcheck: {error}"),
-            Failure::Source { name, error } => eprintln!(rt; "cabcheck: {name}: {error}"),
-            Failure::BadLine { name, line, wrong } => eprintln!(rt; "{name}:{line}: {wrong}"),
-            Failure::NoMemory => eprintln!(rt; "cabcheck: not enough memory"),
-            Failure::Unsaid => Ok(()),
+            Failure::Options(error) => write!(f, "cabcheck: {error}"),
+            Failure::Source { name, error } => write!(f, "cabcheck: {name}: {error}"),
+            Failure::BadLine { name, line, wrong } => write!(f, "{name}:{line}: {wrong}"),
+            Failure::NoMemory => f.write_str("cabcheck: not enough memory"),
+            Failure::Output(error) => write!(f, "cabcheck: output: {error}"),
         }
     }
 }
 
 impl From<io::Error> for Failure<'_> {
-    fn from(_error: io::Error) -> Self {
-        Failure::Unsaid
+    fn from(error: io::Error) -> Self {
+        match error.kind() {
+            io::ErrorKind::OutOfMemory => Failure::NoMemory,
+            _ => Failure::Output(error),
+        }
     }
 }
 
 impl From<AllocError> for Failure<'_> {
     fn from(_error: AllocError) -> Self {
-        Failure::Unsaid
+        Failure::NoMemory
     }
 }

@@ -6,9 +6,12 @@ mod input;
 mod messages;
 mod options;
 mod plan;
+mod report;
 mod run;
 mod side;
 mod table;
+#[cfg(test)]
+mod tests;
 mod tsv;
 mod words;
 
@@ -30,7 +33,8 @@ or for -, the list comes from standard input.
   --help          print this
   --version       print the version
 
-The status is 1 where answers differ, or where a list cannot be read.
+The status is 1 where answers differ or one cab has more calls, for a bad
+option or a bad line, and where a list cannot be read or output not written.
 ";
 
 fn answer_asked<'a>(
@@ -51,7 +55,9 @@ fn main(rt: HostRuntime) -> ExitCode {
     match answer_asked(&rt, &asked) {
         Ok(status) => status,
         Err(failure) => {
-            let _ = failure.say(&rt);
+            if !failure.is_closed_output() {
+                let _ = eprintln!(rt; "{failure}");
+            }
             ExitCode::FAILURE
         }
     }

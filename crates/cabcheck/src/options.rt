@@ -11,7 +11,7 @@ pub struct Options {
     pub second: Option<String>,
 }
 
-// What the command line asks for.
+// What a command line asks for.
 #[derive(Drop)]
 pub enum Asked {
     Help,
@@ -19,19 +19,25 @@ pub enum Asked {
     Run(Options),
 }
 
+// What the command line of this process asks for.
 pub fn read_options(rt: &HostRuntime) -> anyhow::Result<Asked> {
+    let mut words = env::args(rt)?;
+    let _program = words.next();
+    options_of(words)
+}
+
+// What the words behind the program's name ask for.
+pub fn options_of(mut words: env::Args) -> anyhow::Result<Asked> {
     let mut tsv = false;
     let mut list = None;
     let mut second = None;
-    let mut args = env::args(rt)?;
-    let _program = args.next();
-    while let Some(word) = args.next() {
+    while let Some(word) = words.next() {
         match word.as_str() {
             "--help" | "-h" => return Ok(Asked::Help),
             "--version" => return Ok(Asked::Version),
             "--tsv" => tsv = true,
             "--second" => {
-                let name = args
+                let name = words
                     .next()
                     .ok_or_else(|| anyhow!("--second wants the name of a list"))?;
                 second = Some(name);

@@ -1,3 +1,6 @@
+ghost use Rattle.std.specs.Prelude.{◌≡◌};
+ghost use Rattle.cabcheck.specs.Notes.{note_name, note_number};
+
 use cab_unit::Call;
 use call_list::{Entry, Listed};
 use driver_desk::{Draft, Refusal};
@@ -29,7 +32,9 @@ pub enum Note {
 }
 
 impl Note {
-    pub fn name(self) -> &'static str {
+    pub fn name(self) -> &'static str
+        ensures { result.now ≡ note_name self }
+    {
         match self {
             Note::Draft(_) => "draft",
             Note::Fault { .. } => "fault",
@@ -38,7 +43,9 @@ impl Note {
     }
 
     // 0, or the number of the refusal.
-    pub fn number(self) -> u8 {
+    pub fn number(self) -> u8
+        ensures { result ≡ note_number self }
+    {
         match self {
             Note::Draft(refusal) => refusal.number(),
             Note::Fault { fault, .. } => fault.number(),
@@ -59,6 +66,12 @@ pub enum Told<C> {
 pub struct Row<C> {
     pub line: usize,
     pub told: Told<C>,
+}
+
+impl<C> Row<C> {
+    pub fn is_of_call(&self) -> bool {
+        matches!(self.told, Told::Call(_))
+    }
 }
 
 // The calls of one cab, and the rows that tell of them. A row of a call takes the next one; an order of a telegram stands there as it was read.

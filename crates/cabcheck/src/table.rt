@@ -5,7 +5,7 @@ use crate::words::{CallWords, RequestWords, outcome_number};
 use cab_unit::Call;
 use compare::{Likeness, same_asked};
 use driver_desk::Answer;
-use itertools::Itertools;
+use itertools::{EitherOrBoth, Itertools};
 use std::alloc::Global;
 use std::io::Write;
 use std::{fmt, io};
@@ -15,18 +15,28 @@ use train_end::{BusEnd, PulseEnd};
 // What stands behind the requests: the places of a telegram's order, or what the two ends read in the blocks of a cycle.
 // Blank is a case of its own, since it is printed too, and an Option can't be given a Display here.
 #[derive(Clone, Copy)]
-enum Column<'c> {
+enum Column {
     Blank,
-    Placed(Placed<'c>),
+    Places {
+        first: usize,
+        after: usize,
+    },
     Speeds {
         bus: Option<u16>,
         pulse: Option<u16>,
     },
 }
 
-impl Column<'_> {
+impl Column {
+    fn of_placed(placed: Placed<'_>) -> Column {
+        Column::Places {
+            first: placed.first,
+            after: placed.after,
+        }
+    }
+
     // What the two ends read, where both rows tell of cycles.
-    fn of_cycles(told: &Told<Answered<'_>>, other: &Told<Answered<'_>>) -> Self {
+    fn of_cycles(told: &Told<Answered<'_>>, other: &Told<Answered<'_>>) -> Column {
         match (*told, *other) {
             (
                 Told::Call(
@@ -50,11 +60,11 @@ impl Column<'_> {
     }
 }
 
-impl fmt::Display for Column<'_> {
+impl fmt::Display for Column {
     fn fmt<W: fmt::Write>(&self, f: &mut fmt::Formatter<W>) -> fmt::Result {
         match *self {
             Column::Blank => f.write_str("             "),
-            Column::Placed(Placed { first, after, .. }) => write!(f, " {first:>4} to {after:<4}"),
+            Column::Places { first, after } => write!(f, " {first:>4} to {after:<4}"),
             Column::Speeds { bus, pulse } => {
                 let sign = if bus == pulse { "= " } else { "<>" };
                 let bus = Speed(bus);
@@ -119,6 +129,37 @@ fn same_told(told: &Told<Answered<'_>>, other: &Told<Answered<'_>>) -> bool {
     }
 }
 
+// Two rows that stand beside each other, or one alone.
+type Pair<'b, 'p> = EitherOrBoth<Row<Answered<'b>>, Row<Answered<'p>>>;
+
+// What stands behind two rows that do not tell the same. What is no call is not compared.
+#[derive(Clone, Copy)]
+enum Mark {
+    NotCompared,
+    Reordered,
+    Differ,
+}
+
+impl Mark {
+    fn of_rows(compared: bool, reordered: bool) -> Mark {
+        match (compared, reordered) {
+            (false, _) => Mark::NotCompared,
+            (true, true) => Mark::Reordered,
+            (true, false) => Mark::Differ,
+        }
+    }
+}
+
+impl fmt::Display for Mark {
+    fn fmt<W: fmt::Write>(&self, f: &mut fmt::Formatter<W>) -> fmt::Result {
+        match self {
+            Mark::NotCompared => Ok(()),
+            Mark::Reordered => f.write_str("  ~ another order"),
+            Mark::Differ => f.write_str("  < differ"),
+        }
+    }
+}
+
 // Where the rows are printed, and the heap for words that are padded.
 #[derive(Drop)]
 struct Table<'o, W> {
@@ -132,7 +173,7 @@ impl<W: Write> Table<'_, W> {
         line: usize,
         cab: &str,
         call: &str,
-        column: Column<'_>,
+        column: Column,
         answer: &Answer,
     ) -> io::Result<()> {
         let outcome = outcome_number(answer.outcome);
@@ -150,21 +191,14 @@ impl<W: Write> Table<'_, W> {
         write!(self.out, " {buttons:>7} {waiting:>7}  {first:<14}{column}")
     }
 
-    // A row of a cab, or that it has none; of a call that stands in no telegram, `column` comes behind the requests.
-    fn print_row(
-        &mut self,
-        cab: &str,
-        row: Option<Row<Answered<'_>>>,
-        column: Column<'_>,
-    ) -> io::Result<()> {
-        let Some(Row { line, told }) = row else {
-            return write!(self.out, "     - {cab:<5} nothing");
-        };
-        match told {
+    // A row of a cab; of a call that stands in no telegram, `column` comes behind the requests.
+    fn print_row(&mut self, cab: &str, row: &Row<Answered<'_>>, column: Column) -> io::Result<()> {
+        let line = row.line;
+        match row.told {
             Told::Call(answered) => {
                 let call = CallWords(answered.call);
                 let call = format!(in self.heap; "{call}")?;
-                let column = answered.placed.map_or(column, Column::Placed);
+                let column = answered.placed.map_or(column, Column::of_placed);
                 self.print_answer(line, cab, call.as_str(), column, &answered.answer)
             }
             Told::Note(note) => {
@@ -176,39 +210,51 @@ impl<W: Write> Table<'_, W> {
         }
     }
 
-    // One row where both cabs tell the same, else both with a mark.
+    // One row where both cabs tell the same, else the row of each. What is no call has no message.
     fn print_pair(
         &mut self,
-        row: Option<Row<Answered<'_>>>,
-        other: Option<Row<Answered<'_>>>,
+        pair: Pair<'_, '_>,
         reordered: bool,
         message: Message<'_>,
     ) -> io::Result<()> {
+        let (row, other) = pair.left_and_right();
+        let of_calls = row.is_some_and(|row| row.is_of_call())
+            || other.is_some_and(|row| row.is_of_call());
+        let message = if of_calls { message } else { Message(None) };
         let mut column = Column::Blank;
         if let (Some(one), Some(two)) = (row, other) {
             column = Column::of_cycles(&one.told, &two.told);
             if same_told(&one.told, &two.told) {
-                self.print_row("", row, column)?;
-                let message = match one.told {
-                    Told::Call(_) => message,
-                    Told::Note(_) => Message(None),
-                };
+                self.print_row("", &one, column)?;
                 return writeln!(self.out, "{message}");
             }
         }
-        let mark = if reordered {
-            "  ~ another order"
-        } else {
-            "  < differ"
-        };
-        self.print_row(Cab::Bus.name(), row, column)?;
-        writeln!(self.out, "{message}{mark}")?;
-        self.print_row(Cab::Pulse.name(), other, column)?;
-        writeln!(self.out, "{mark}")
+        let mark = Mark::of_rows(of_calls, reordered);
+        self.print_side(Cab::Bus, row, column, message, mark)?;
+        self.print_side(Cab::Pulse, other, column, Message(None), mark)
+    }
+
+    // The row of one cab with its mark, or that it has no call where the other has one.
+    fn print_side(
+        &mut self,
+        cab: Cab,
+        row: Option<Row<Answered<'_>>>,
+        column: Column,
+        message: Message<'_>,
+        mark: Mark,
+    ) -> io::Result<()> {
+        let name = cab.name();
+        match (row, mark) {
+            (Some(row), _) => self.print_row(name, &row, column)?,
+            (None, Mark::NotCompared) => return Ok(()),
+            (None, _) => write!(self.out, "     - {name:<5} nothing")?,
+        }
+        writeln!(self.out, "{message}{mark}")
     }
 }
 
 // The table of both cabs; the words of the first cab's top message stand behind its rows.
+// Calls stand beside calls: what is no call comes first, and alone where the other cab has a call.
 pub fn print_table<W: Write + Drop>(
     out: &mut W,
     heap: Global,
@@ -226,8 +272,11 @@ pub fn print_table<W: Write + Drop>(
     )?;
     table.print_answer(0, "", "on", Column::Blank, &bus.on)?;
     writeln!(table.out)?;
-    for pair in bus.rows().zip_longest(pulse.rows()) {
-        let (row, other) = pair.left_and_right();
+    for pair in bus.rows().merge_join_by(
+        pulse.rows(),
+        |row, other| row.is_of_call().cmp(&other.is_of_call()),
+    ) {
+        let (row, _) = pair.left_and_right();
         let mut in_another_order = false;
         if let Some(
             Row {
@@ -240,7 +289,7 @@ pub fn print_table<W: Write + Drop>(
             in_another_order = reordered.next().copied().unwrap_or(false);
         }
         let message = Message(messages.top_words());
-        table.print_pair(row, other, in_another_order, message)?;
+        table.print_pair(pair, in_another_order, message)?;
     }
     Ok(())
 }

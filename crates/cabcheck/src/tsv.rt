@@ -1,3 +1,6 @@
+ghost use Rattle.std.specs.Prelude.{Some};
+ghost use Rattle.cabcheck.specs.Columns.{answer_columns, note_columns};
+
 use crate::plan::{Cab, Note, Row, Told};
 use crate::side::{Answered, Side};
 use crate::words::{CallWords, RequestWords, outcome_number};
@@ -10,6 +13,8 @@ use std::{fmt, io};
 struct AnswerColumns(Answer);
 
 impl fmt::Display for AnswerColumns {
+    ghost output = { λ w. Some (answer_columns w.0) };
+
     fn fmt<W: fmt::Write>(&self, f: &mut fmt::Formatter<W>) -> fmt::Result {
         let answer = &self.0;
         let outcome = outcome_number(answer.outcome);
@@ -35,6 +40,8 @@ impl fmt::Display for AnswerColumns {
 struct NoteColumns(Note);
 
 impl fmt::Display for NoteColumns {
+    ghost output = { λ w. Some (note_columns w.0) };
+
     fn fmt<W: fmt::Write>(&self, f: &mut fmt::Formatter<W>) -> fmt::Result {
         write!(f, "{}\t", self.0.number())?;
         match self.0 {

@@ -1,6 +1,7 @@
 ghost use Rattle.std.specs.Prelude.{◌≡◌, Some};
 ghost use Rattle.driver_desk.specs.Numbers.{outcome_number};
-ghost use Rattle.cabcheck.specs.Words.{request_column};
+ghost use Rattle.cab_unit.specs.Events.{said};
+ghost use Rattle.cabcheck.specs.Words.{call_words, request_column};
 
 use cab_unit::Call;
 use driver_desk::{Refusal, Request};
@@ -12,6 +13,8 @@ use telegram::Order;
 pub struct CallWords<'a>(pub Call<'a>);
 
 impl fmt::Display for CallWords<'_> {
+    ghost output = { λ w. Some (call_words (said w.0)) };
+
     fn fmt<W: fmt::Write>(&self, f: &mut fmt::Formatter<W>) -> fmt::Result {
         match self.0 {
             Call::Cycle(_) => f.write_str("cycle"),

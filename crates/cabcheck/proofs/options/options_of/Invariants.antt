@@ -1,0 +1,5 @@
+use Rattle.std.specs.Vec.Iter.{into_iter_len}
+use Rattle.cabcheck.proofs.options.options_of.Given as goal
+
+abbrev pub decreases-loop-word : goal.decreases-loop-word
+decreases-loop-word l = into_iter_len l.words

@@ -1,0 +1,62 @@
+#!/usr/bin/env python3
+"""Sees that the compiler refuses each misuse of the unit in misuses/.
+
+    python3 tools/try_misuses.py
+
+The prover is not asked: a misuse is no program, so it cannot be a must-fail edit of a crate. A file there names a
+source file, one of its lines, the line in its place, and the error that the compiler has to give. As it stands the
+crate has to compile. The check works on a copy.
+"""
+import shutil
+import subprocess
+import sys
+import tempfile
+from pathlib import Path
+
+TOP = Path(__file__).resolve().parent.parent
+
+
+def read_misuse(path):
+    return dict(line.split(": ", 1) for line in path.read_text().splitlines())
+
+
+def compile_crate(folder):
+    ran = subprocess.run(["rt", "try", "--test"], cwd=folder, stdin=subprocess.DEVNULL, stdout=subprocess.PIPE, stderr=subprocess.STDOUT, text=True)
+    return ran.stdout
+
+
+def is_refused(top, misuse):
+    source = top / misuse["file"]
+    text = source.read_text()
+    if text.count(misuse["old"]) != 1:
+        print(f"{misuse['file']} does not have once: {misuse['old']}")
+        return False
+    source.write_text(text.replace(misuse["old"], misuse["new"]))
+    said = compile_crate(top / Path(misuse["file"]).parents[1])
+    source.write_text(text)
+    if f": error[{misuse['refused']}]: " in said and "run=none" in said:
+        return True
+    print(said)
+    return False
+
+
+def main():
+    misuses = sorted((TOP / "misuses").glob("*.edit"))
+    with tempfile.TemporaryDirectory() as room:
+        top = Path(room)
+        shutil.copytree(TOP / "crates", top / "crates", ignore=shutil.ignore_patterns("out"))
+        shutil.copy(TOP / "crates.txt", top)
+        refused = 0
+        for path in misuses:
+            misuse = read_misuse(path)
+            if is_refused(top, misuse):
+                refused += 1
+                print(f"misuse {path.stem}: the compiler refuses it ({misuse['refused']})")
+            else:
+                print(f"misuse {path.stem}: NOT REFUSED")
+    print(f"{refused} of {len(misuses)} misuses are refused")
+    return 0 if misuses and refused == len(misuses) else 1
+
+
+if __name__ == "__main__":
+    sys.exit(main())
