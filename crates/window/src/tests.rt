@@ -50,6 +50,12 @@ fn the_top_line(rt: HostRuntime) {
         window.lines(),
         [line(6, 1, 0, 0), line(7, 4, 0, 0), line(7, 9, 0, 0)].as_slice()
     );
+    assert_eq!(rt; window.remove(4), Ok(()));
+    assert_eq!(rt; window.top(), Some(1));
+    assert_eq!(rt;
+        window.lines(),
+        [line(6, 1, 0, 0), line(7, 9, 0, 0)].as_slice()
+    );
 }
 
 #[test]
@@ -68,19 +74,6 @@ fn parts_of_a_store(rt: HostRuntime) {
         assert_eq!(rt; window.add(line(1, 4, place, length)), Ok(()));
         assert_eq!(rt; window.show(0, b"belts"), part);
         assert_eq!(rt; window.show(1, b"belts"), Err(Refusal::NoSuchLine));
-    }
-}
-
-#[test]
-fn numbers(rt: HostRuntime) {
-    let all = [
-        Refusal::NoFreeLine,
-        Refusal::NumberThere,
-        Refusal::NoSuchLine,
-        Refusal::OutsideStore,
-    ];
-    for (i, refusal) in all.iter().enumerate() {
-        assert_eq!(rt; refusal.number() as usize, 50 + i);
     }
 }
 
