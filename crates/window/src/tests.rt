@@ -1,6 +1,7 @@
 use crate::Window;
 use crate::line::Line;
 use crate::refusal::Refusal;
+use ordering::shelf::ShelfRefusal;
 use std::test::Fail;
 
 fn line(cycle: u32, number: u8, place: usize, length: usize) -> Line {
@@ -74,6 +75,16 @@ fn parts_of_a_store(rt: HostRuntime) {
         assert_eq!(rt; window.add(line(1, 4, place, length)), Ok(()));
         assert_eq!(rt; window.show(0, b"belts"), part);
         assert_eq!(rt; window.show(1, b"belts"), Err(Refusal::NoSuchLine));
+    }
+}
+
+#[test]
+fn refusals_of_the_shelf(rt: HostRuntime) {
+    for (why, refusal) in [
+        (ShelfRefusal::NoFreePlace, Refusal::NoFreeLine),
+        (ShelfRefusal::NoSuchPosition, Refusal::NoSuchLine),
+    ] {
+        assert_eq!(rt; Refusal::from(why), refusal);
     }
 }
 
