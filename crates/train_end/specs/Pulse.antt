@@ -1,5 +1,5 @@
 -- What the pulse end reads in a block: two 16-bit pulse counts, high byte first, one from each axle.
-use Rattle.std.specs.Prelude.{◌≡◌, ℕ, ◌+◌, ◌-◌, ◌*◌, ◌/◌, ◌<◌, ◌≤◌, min, max, cond, List, [], ◌∷◌, Some, None, Option, option_and_then, nat_le}
+use Rattle.std.specs.Prelude.{◌≡◌, ℕ, ◌+◌, ◌-◌, ◌*◌, ◌/◌, ◌<◌, ◌≤◌, min, max, cond, List, [], ◌∷◌, Some, None, Option, option_and_then, is_some, nat_le}
 
 abbrev pub larger_of : ℕ → ℕ → Option ℕ
 larger_of one other = cond (nat_le (max one other - min one other) 3) (Some (max one other)) None
@@ -35,6 +35,14 @@ pulse_reading block = option_and_then count_speed (pulse_count block)
 abbrev pub PulseEdges : Type 0
 PulseEdges = (pulse_reading (0 ∷ 1 ∷ 0 ∷ 0 ∷ []) ≡ Some 2) × (pulse_reading (0x02 ∷ 0x2B ∷ 0x02 ∷ 0x2B ∷ []) ≡ Some 600)
     × (pulse_reading (0x02 ∷ 0x2C ∷ 0x02 ∷ 0x2B ∷ []) ≡ None)
+
+-- which axle a count comes from makes no difference
+abbrev pub AxlesAlike : Type 0
+AxlesAlike = (a b c d : ℕ) → pulse_reading (a ∷ b ∷ c ∷ d ∷ []) ≡ pulse_reading (c ∷ d ∷ a ∷ b ∷ [])
+
+-- the speed is known for every larger count up to 555, and for none above
+abbrev pub KnownTo555 : Type 0
+KnownTo555 = (block : List ℕ) (p : ℕ) → pulse_count block ≡ Some p → is_some (pulse_reading block) ≡ nat_le p 555
 
 -- of two blocks, the one whose larger count is not below the other's never means a lower speed
 abbrev pub NeverFalls : Type 0

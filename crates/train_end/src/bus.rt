@@ -1,6 +1,6 @@
-ghost use Rattle.std.specs.Prelude.{◌≡◌, true, None};
+ghost use Rattle.std.specs.Prelude.{◌≡◌, true, [], ◌∷◌, None};
 ghost use Rattle.train_end.specs.declared.brake_line.BrakeLine.TheVariants.{Emergency};
-ghost use Rattle.train_end.specs.Bus.{bus_reading, bus_fields, valid_bit, filler_bits, speed_bits, BusEdges, EverySpeedHasABlock};
+ghost use Rattle.train_end.specs.Bus.{bus_reading, BusEdges, EverySpeedHasABlock};
 ghost use Rattle.train_end.specs.Speed.{in_range, RangeEdges};
 
 use crate::brake_line::BrakeLine;
@@ -16,7 +16,7 @@ pub struct BusEnd {
 
 // The speed in the three fields of a block of two bytes.
 fn fields(high: u8, low: u8) -> Option<u16>
-    ensures { result ≡ bus_fields (valid_bit high) (filler_bits high) (speed_bits high low) }
+    ensures { result ≡ bus_reading (high ∷ low ∷ []) }
 {
     let valid = high / 128;
     let filler = high / 4 % 32;

@@ -1,7 +1,7 @@
 ghost use Rattle.std.specs.Prelude.{◌≡◌, true, false, None};
 ghost use Rattle.train_end.specs.declared.brake_line.BrakeLine.TheVariants.{Emergency};
 ghost use Rattle.train_end.specs.Line.{relay_line, FailsSafe};
-ghost use Rattle.train_end.specs.Pulse.{pulse_counts, larger_count, count_speed, pulse_reading, PulseEdges, NeverFalls, RoundedUp};
+ghost use Rattle.train_end.specs.Pulse.{pulse_counts, larger_count, count_speed, pulse_reading, PulseEdges, AxlesAlike, KnownTo555, NeverFalls, RoundedUp};
 ghost use Rattle.train_end.specs.Speed.{in_range};
 
 use crate::brake_line::BrakeLine;
@@ -58,9 +58,12 @@ impl PulseEnd {
     }
 
     // The speed that a block means: the two axles' counts, compared and reduced to the larger.
+    #[tactic(auto, using(crate::proofs::Counts::axles_alike))]
     pub fn read(block: &[u8]) -> Option<u16>
         ensures value { result ≡ pulse_reading block.now }
         ensures edges { PulseEdges }
+        ensures axles { AxlesAlike }
+        ensures known { KnownTo555 }
         ensures rises { NeverFalls }
         ensures rounds { RoundedUp }
     {

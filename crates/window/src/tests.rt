@@ -1,6 +1,7 @@
 use crate::Window;
 use crate::line::Line;
 use crate::refusal::Refusal;
+use ordering::shelf::ShelfRefusal;
 use std::test::Fail;
 
 fn line(cycle: u32, number: u8, place: usize, length: usize) -> Line {
@@ -50,6 +51,12 @@ fn the_top_line(rt: HostRuntime) {
         window.lines(),
         [line(6, 1, 0, 0), line(7, 4, 0, 0), line(7, 9, 0, 0)].as_slice()
     );
+    assert_eq!(rt; window.remove(4), Ok(()));
+    assert_eq!(rt; window.top(), Some(1));
+    assert_eq!(rt;
+        window.lines(),
+        [line(6, 1, 0, 0), line(7, 9, 0, 0)].as_slice()
+    );
 }
 
 #[test]
@@ -72,15 +79,12 @@ fn parts_of_a_store(rt: HostRuntime) {
 }
 
 #[test]
-fn numbers(rt: HostRuntime) {
-    let all = [
-        Refusal::NoFreeLine,
-        Refusal::NumberThere,
-        Refusal::NoSuchLine,
-        Refusal::OutsideStore,
-    ];
-    for (i, refusal) in all.iter().enumerate() {
-        assert_eq!(rt; refusal.number() as usize, 50 + i);
+fn refusals_of_the_shelf(rt: HostRuntime) {
+    for (why, refusal) in [
+        (ShelfRefusal::NoFreePlace, Refusal::NoFreeLine),
+        (ShelfRefusal::NoSuchPosition, Refusal::NoSuchLine),
+    ] {
+        assert_eq!(rt; Refusal::from(why), refusal);
     }
 }
 
