@@ -5,6 +5,8 @@ mod answer;
 mod level;
 mod refusal;
 mod request;
+#[cfg(test)]
+mod tests;
 mod train_record;
 
 pub use answer::Answer;

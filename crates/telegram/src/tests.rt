@@ -60,6 +60,26 @@ fn orders_are_read(rt: HostRuntime) {
 }
 
 #[test]
+fn values_stand_at_their_bits(rt: HostRuntime) {
+    for (bytes, order) in [
+        ([0x10, 3, 0x00], Order::Authority(Mode::FullSupervision)),
+        ([0x10, 3, 0x40], Order::Authority(Mode::OnSight)),
+        ([0x10, 3, 0x80], Order::Authority(Mode::LimitedSupervision)),
+        ([0x20, 3, 0x00], Order::Level(0)),
+        ([0x20, 3, 0x40], Order::Level(1)),
+        ([0x20, 3, 0x80], Order::Level(2)),
+        ([0x40, 3, 0x07], Order::TextWithdrawal(7)),
+    ] {
+        let placed = Placed {
+            order,
+            first: 0,
+            after: 3,
+        };
+        assert_eq!(rt; Reader::new(&bytes).next(), Ok(Some(placed)));
+    }
+}
+
+#[test]
 fn orders_are_refused(rt: HostRuntime) {
     runs(
         &rt,
