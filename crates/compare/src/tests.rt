@@ -210,7 +210,22 @@ fn runs_compared(rt: HostRuntime) -> Result<(), Fail> {
             compared: 3,
             differing: 0,
         },
-        // one list longer, and one answer fewer than calls
+        // one answer more than calls, and one fewer
+        Found {
+            run: Run {
+                calls: &[press],
+                answers: &[yes],
+            },
+            other: Run {
+                calls: &[press],
+                answers: &[yes, yes],
+            },
+            alike: false,
+            marks: &[false],
+            unequal: 0,
+            compared: 1,
+            differing: 0,
+        },
         Found {
             run: Run {
                 calls: &[press, press],
