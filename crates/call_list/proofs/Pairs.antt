@@ -1,10 +1,13 @@
 -- Pairs of digits, as the crate of hexadecimal texts reads them.
-use Rattle.std.proofs.Common.{◌≡◌, ℕ, ◌+◌, ◌*◌, ◌%◌, inl, inr, List, [], ◌∷◌, length, Some, None, Option, Ok, Err, Result, refl, sym, ap, ◌∙◌, arith}
-use Rattle.std.proofs.lemmas.Bool.{cases_eq}
+use Rattle.std.proofs.Common.{◌≡◌, ℕ, ◌+◌, ◌*◌, ◌%◌, inl, inr, true, false, List, [], ◌∷◌, length, Some, None, Option, Ok, Err, Result, refl, sym, ap, ◌∙◌, arith}
+use Rattle.std.specs.Option.{is_some}
 use Rattle.std.specs.Result.{result_ok}
-use Rattle.hex.specs.Hex.{decode_of, decode_pairs, digit_or_error, hex_digit_value, pair_value, value_at, ◌>>=◌}
+use Rattle.std.specs.List.{list_all}
+use Rattle.std.proofs.lemmas.Bool.{cases_Bool, cases_eq, false≢true}
+use Rattle.std.proofs.lemmas.List.Sums.{AllPass-from_list_all, list_all-from_AllPass}
+use Rattle.hex.specs.Hex.{decode_of, decode_pairs, digit_or_error, hex_digit_value, is_hex_digit, pair_value, value_at, ◌>>=◌}
 use Rattle.hex.specs.declared.error.FromHexError.{FromHexError}
-use Rattle.hex.proofs.HexLemmas.{decode_of-even, decode_of-odd}
+use Rattle.hex.proofs.HexLemmas.{decode_of-digits, decode_of-even, decode_of-odd, decode_of-ok}
 use Rattle.call_list.specs.Hex.{digit_of, join_digits, byte_of, before, pairs}
 
 same_digit : (b : ℕ) → hex_digit_value b ≡ digit_of b
@@ -56,9 +59,27 @@ same_bytes s =
     ]
 
 -- a text that the crate decodes has those bytes as pairs
-pub decoded : (s bytes : List ℕ) → decode_of s ≡ Ok bytes → Some bytes ≡ pairs s
-decoded s bytes h = ap result_ok (sym h) ∙ same_bytes s
+pub decoded : (s bytes : List ℕ) → decode_of s ≡ Ok bytes → pairs s ≡ Some bytes
+decoded s bytes h = sym (same_bytes s) ∙ ap result_ok h
 
--- a text that it refuses has none
-pub refused : (s : List ℕ) (e : FromHexError) → decode_of s ≡ Err e → None ≡ pairs s
-refused s e h = ap result_ok (sym h) ∙ same_bytes s
+some_ok : (r : Result (List ℕ) FromHexError) → is_some (result_ok r) ≡ true → (bytes : List ℕ) × (r ≡ Ok bytes)
+some_ok (Ok bytes) h = (bytes, refl)
+some_ok (Err e) h = absurd (false≢true h)
+
+module _ (s : List ℕ) where
+  -- an even number of bytes is pairs exactly where each is a digit
+  pub even_pairs : length s % 2 ≡ 0 → is_some (pairs s) ≡ list_all is_hex_digit s
+  even_pairs even = elim (cases_Bool (list_all is_hex_digit s)) [
+    | inl digits ↦
+        let d = decode_of-digits s even (AllPass-from_list_all is_hex_digit s digits) in ap is_some (decoded s d.0 d.1) ∙ sym digits
+    | inr other ↦ elim (cases_Bool (is_some (pairs s))) [
+      | inl some ↦
+          let r = some_ok (decode_of s) (ap is_some (same_bytes s) ∙ some) in
+          let digits = list_all-from_AllPass is_hex_digit s (decode_of-ok s r.0 r.1).1 in absurd (false≢true (sym other ∙ digits))
+      | inr none ↦ none ∙ sym other
+    ]
+  ]
+
+  -- an odd number is none
+  pub no_odd_pairs : length s % 2 ≡ 1 → is_some (pairs s) ≡ false
+  no_odd_pairs odd = ap is_some (odd_pairs s odd)

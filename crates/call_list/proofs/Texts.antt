@@ -1,5 +1,5 @@
 -- A text piece by piece, and the calls kept so far.
-use Rattle.std.proofs.Common.{◌≡◌, ℕ, ◌+◌, ◌<◌, ◌≤◌, Bool, true, false, ◌&&◌, ◌||◌, ◌⊎◌, List, [], ◌∷◌, ◌++◌, map, length, get_or, drop, Ok, Err, Some, None, Option, Bor, sym, refl, ap, ◌∙◌, subst, inl, inr, append-nil, arith}
+use Rattle.std.proofs.Common.{◌≡◌, ℕ, ◌+◌, ◌<◌, ◌≤◌, Bool, true, false, ◌&&◌, ◌||◌, ◌⊎◌, List, [], ◌∷◌, ◌++◌, map, length, get_or, drop, Ok, Err, Some, None, Option, Result, Bor, sym, refl, ap, ◌∙◌, subst, inl, inr, append-nil, arith}
 use Rattle.std.proofs.lemmas.Bool.{cases_Bool, or_left}
 use Rattle.std.proofs.lemmas.List.{at_drop_more, at_drop_all}
 use Rattle.std.proofs.lemmas.List.FromFn.{length-enumerate_from, get_or-enumerate_from}
@@ -13,9 +13,9 @@ use Rattle.std.specs.Iterator.Adapters.{enumerate_source, enumerate_count, enume
 use Rattle.std.specs.Slice.Iter.{split_rest, split_done, split_callee, split_steps}
 use denote.Param.Members.{Mut}
 use Rattle.std.specs.List.{slice_split, onto_first, enumerate_from}
-use Rattle.call_list.specs.Words.{is_break, word_of}
-use Rattle.call_list.specs.Lines.{LineValue, passed, cycle, telegram, press, draft, order, wrong, verb_of, line_of, has_bytes}
-use Rattle.call_list.specs.Lists.{lines_of, ListValue, calls, bad_line, behind, with_line, list_from, list_of, located, is_call, is_passed, takes_memory, may_want, Noted, NotedOrWantsMemory, ReadsList, ReadsListOrWantsMemory}
+use Rattle.call_list.specs.Words.{is_break}
+use Rattle.call_list.specs.Lines.{CallValue, is_call, line_of}
+use Rattle.call_list.specs.Lists.{lines_of, ListValue, calls, bad_line, behind, with_line, list_from, list_of, located, is_passed, may_want, Noted, ReadsList, ReadsListOrWantsMemory}
 use Rattle.call_list.specs.declared.entry.Wrong.{Wrong}
 use Rattle.call_list.specs.declared.listed.Listed.{Listed}
 use Rattle.call_list.specs.declared.listed.ListFault.{ListFault}
@@ -54,7 +54,7 @@ blank_behind n (line ∷ lines) = ap (with_line n (line_of line)) (blank_behind 
 
 blank_wants : (lines : List (List ℕ)) → may_want (lines ++ [] ∷ []) ≡ may_want lines
 blank_wants [] = refl
-blank_wants (line ∷ lines) = ap (λ b. takes_memory line || (is_passed (line_of line) && b)) (blank_wants lines)
+blank_wants (line ∷ lines) = ap (λ b. is_call (line_of line) || (is_passed (line_of line) && b)) (blank_wants lines)
 
 pieces_list : (n : ℕ) (text : List ℕ) → list_from n (slice_split is_break text) ≡ list_from n (lines_of text)
 pieces_list n text = elim (pieces text) [
@@ -81,24 +81,16 @@ abbrev HasCalls : ListValue → Type 0
 HasCalls (calls xs) = Unit {0}
 HasCalls (bad_line n w) = ⊥
 
-calls_not_bad : (xs : List (ℕ × LineValue)) (n : ℕ) (w : Wrong) → calls xs ≡ bad_line n w → ⊥
+calls_not_bad : (xs : List (ℕ × CallValue)) (n : ℕ) (w : Wrong) → calls xs ≡ bad_line n w → ⊥
 calls_not_bad xs n w e = subst HasCalls e tt
 
--- a line that was noted is no bad line: it is passed, or its call takes memory
-noted_passes : (n : ℕ) (v : LineValue) (before after : List Listed) (lines : Bool) →
+-- a line that was noted is no bad line: it is passed, or it is a call
+noted_passes : (n : ℕ) (v : Result (Option CallValue) Wrong) (before after : List Listed) (lines : Bool) →
     ((rest : ListValue) → behind (map located after) rest ≡ behind (map located before) (with_line n v rest)) →
     lines ≡ true → is_call v || (is_passed v && lines) ≡ true
-noted_passes n passed before after lines noted h = h
-noted_passes n (cycle bus pulse) before after lines noted h = refl
-noted_passes n (telegram bytes) before after lines noted h = refl
-noted_passes n (press b) before after lines noted h = refl
-noted_passes n (draft driver length percentage speed) before after lines noted h = refl
-noted_passes n (order o) before after lines noted h = refl
-noted_passes n (wrong w) before after lines noted h = absurd (calls_not_bad _ n w (noted (calls [])))
-
-or_more : (x y z : Bool) → (y || z) ≡ true → ((x || y) || z) ≡ true
-or_more true y z e = refl
-or_more false y z e = e
+noted_passes n (Ok None) before after lines noted h = h
+noted_passes n (Ok (Some call)) before after lines noted h = refl
+noted_passes n (Err w) before after lines noted h = absurd (calls_not_bad _ n w (noted (calls [])))
 
 -- what is left from the piece n on gives the whole, one piece on and at a bad line; m is the number of the line
 module _ (kept more : List Listed) (n m : ℕ) (lines : List (List ℕ)) (line : List ℕ) (l : n < length lines) (e : m ≡ n + 1) (f : line ≡ get_or lines n line) where
@@ -124,17 +116,16 @@ module _ (kept more : List Listed) (n m : ℕ) (lines : List (List ℕ)) (line :
 
   pub list_wants : (source : List ℕ) (fault : ListFault) → behind (map located kept) (list_from (n + 1) (drop n lines)) ≡ list_of source →
       (may_want (drop n lines) ≡ true → may_want (lines_of source) ≡ true) →
-      NotedOrWantsMemory m line kept more (Err fault) → ReadsListOrWantsMemory source (Err fault)
+      Noted m (line_of line) kept more (Err fault) → ReadsListOrWantsMemory source (Err fault)
   list_wants source (Line k w) inv want noted = list_bad source (Line k w) inv noted
   list_wants source NoMemory inv want noted =
-      want (at_drop_more may_want lines n line l ∙ ap (λ x. may_want (x ∷ drop (n + 1) lines)) (sym f) ∙ or_left (takes_memory line) _ noted)
+      want (at_drop_more may_want lines n line l ∙ ap (λ x. may_want (x ∷ drop (n + 1) lines)) (sym f) ∙ or_left (is_call (line_of line)) _ noted)
 
   -- where the pieces left may want memory, so may these and the one before them
   pub want_more : (next : ℕ) (done : Unit) → next ≡ n + 1 → Noted m (line_of line) kept more (Ok done) → may_want (drop next lines) ≡ true → may_want (drop n lines) ≡ true
   want_more next done g noted h =
       at_drop_more may_want lines n line l ∙ ap (λ x. may_want (x ∷ drop (n + 1) lines)) (sym f)
-      ∙ or_more (has_bytes (verb_of (word_of line))) (is_call (line_of line)) _
-      (noted_passes m (line_of line) kept more (may_want (drop (n + 1) lines)) noted (ap (λ k. may_want (drop k lines)) (sym g) ∙ h))
+      ∙ noted_passes m (line_of line) kept more (may_want (drop (n + 1) lines)) noted (ap (λ k. may_want (drop k lines)) (sym g) ∙ h)
 
 -- behind the last piece all calls are kept
 pub list_end : (kept : List Listed) (n : ℕ) (lines : List (List ℕ)) (source : List ℕ) → behind (map located kept) (list_from (n + 1) (drop n lines)) ≡ list_of source →

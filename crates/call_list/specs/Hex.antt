@@ -1,7 +1,9 @@
 -- Bytes written as hexadecimal digits.
-use Rattle.std.specs.Prelude.{ℕ, ◌+◌, ◌-◌, ◌*◌, cond, ◌&&◌, List, [], ◌∷◌, Some, None, Option, nat_le}
-use Rattle.std.specs.Option.{option_map}
+use Rattle.std.specs.Prelude.{ℕ, ◌+◌, ◌-◌, ◌*◌, cond, ◌&&◌, List, [], ◌∷◌, Some, None, Option, Result, nat_le}
+use Rattle.std.specs.Option.{option_map, ok_or}
 use Rattle.std.specs.Str.{bytes_eq}
+use Rattle.call_list.specs.declared.entry.Wrong.{Wrong}
+use Rattle.call_list.specs.declared.entry.Wrong.TheVariants.{NotHexadecimal}
 
 -- 0 to 9, A to F and a to f
 abbrev pub digit_of : ℕ → Option ℕ
@@ -32,3 +34,6 @@ pairs (a ∷ b ∷ rest) = before (byte_of a b) (pairs rest)
 -- the bytes that a word names: a lone hyphen is no bytes
 abbrev pub hex_bytes : List ℕ → Option (List ℕ)
 hex_bytes word = cond (bytes_eq word (45 ∷ [])) (Some []) (pairs word)
+
+abbrev pub hex_wanted : List ℕ → Result (List ℕ) Wrong
+hex_wanted word = ok_or (hex_bytes word) NotHexadecimal

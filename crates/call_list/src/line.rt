@@ -1,9 +1,8 @@
-ghost use Rattle.std.specs.Prelude.{◌≡◌, vec_items};
-ghost use Rattle.call_list.specs.Hex.{hex_bytes};
-ghost use Rattle.call_list.specs.Lines.{verb_of, cycle_line, telegram_line, press_line, record_line, order_line, line_of, Reads, ReadsEntry, ReadsLine, ReadsLineOrWantsMemory, ReadsBytes};
+ghost use Rattle.std.specs.Prelude.{◌≡◌};
+ghost use Rattle.call_list.specs.Lines.{verb_of, cycle_line, telegram_line, press_line, record_line, order_line, line_of, Reads, ReadsEntry, ReadsLine};
 
 use crate::entry::{Entry, LineFault, Wrong};
-use crate::hexadecimal::decode;
+use crate::hexadecimal::{decode, hex_wanted};
 use crate::numbers::{byte_wanted, number_wanted};
 use crate::order::order_of;
 use crate::words::{last_word, next_word, split_word};
@@ -34,28 +33,25 @@ fn verb_of(word: &[u8]) -> Result<Option<Verb>, Wrong>
     }
 }
 
-fn bytes_of(heap: Global, word: &[u8]) -> Result<Vec<u8>, LineFault>
-    ensures { ReadsBytes vec_items (hex_bytes word.now) result }
-{
-    let bytes = decode(heap, word)?.ok_or(Wrong::NotHexadecimal)?;
-    Ok(bytes)
-}
-
 fn read_cycle(heap: Global, rest: &[u8]) -> Result<Entry, LineFault>
     ensures { Reads (cycle_line rest.now) result }
 {
     let (bus, rest) = next_word(rest)?;
     let pulse = last_word(rest)?;
-    let bus = bytes_of(heap, bus)?;
-    let pulse = bytes_of(heap, pulse)?;
-    Ok(Entry::Cycle { bus, pulse })
+    let bus = hex_wanted(bus)?;
+    let pulse = hex_wanted(pulse)?;
+    Ok(Entry::Cycle {
+        bus: decode(heap, bus)?,
+        pulse: decode(heap, pulse)?,
+    })
 }
 
 fn read_telegram(heap: Global, rest: &[u8]) -> Result<Entry, LineFault>
     ensures { Reads (telegram_line rest.now) result }
 {
     let bytes = last_word(rest)?;
-    Ok(Entry::Telegram(bytes_of(heap, bytes)?))
+    let bytes = hex_wanted(bytes)?;
+    Ok(Entry::Telegram(decode(heap, bytes)?))
 }
 
 fn read_press(rest: &[u8]) -> Result<Entry, Wrong>
@@ -88,8 +84,7 @@ fn read_order(rest: &[u8]) -> Result<Entry, Wrong>
 
 // What a line asks for; none where it is blank or a comment.
 pub(crate) fn read_line(heap: Global, line: &[u8]) -> Result<Option<Entry>, LineFault>
-    ensures reads { ReadsLine (line_of line.now) result }
-    ensures value { ReadsLineOrWantsMemory line.now result }
+    ensures { ReadsLine (line_of line.now) result }
 {
     let (word, rest) = split_word(line);
     let Some(verb) = verb_of(word)? else {

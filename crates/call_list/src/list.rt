@@ -1,5 +1,5 @@
 ghost use Rattle.call_list.specs.Lines.{line_of};
-ghost use Rattle.call_list.specs.Lists.{Noted, NotedOrWantsMemory, ReadsList, ReadsListOrWantsMemory};
+ghost use Rattle.call_list.specs.Lists.{Noted, ReadsList, ReadsListOrWantsMemory};
 ghost use Rattle.call_list.specs.Modes.{EveryModeIsNamed};
 
 use crate::entry::LineFault;
@@ -14,8 +14,7 @@ fn note_line(
     number: usize,
     line: &[u8],
 ) -> Result<(), ListFault>
-    ensures noted { Noted number (line_of line.now) listed.old.items listed.new.items result }
-    ensures value { NotedOrWantsMemory number line.now listed.old.items listed.new.items result }
+    ensures { Noted number (line_of line.now) listed.old.items listed.new.items result }
 {
     // A match and no `?`: the line's number is added to a fault.
     match read_line(heap, line) {

@@ -23,13 +23,24 @@ fn bad_lines(rt: HostRuntime) {
         ),
         ("cycle 8000 0000000\ncycle", 1, Wrong::NotHexadecimal),
         ("cycle 80g0 -", 1, Wrong::NotHexadecimal),
+        ("cycle x", 1, Wrong::MissingWord),
+        ("telegram x y", 1, Wrong::ExtraWord),
         ("telegram 6002 6002", 1, Wrong::ExtraWord),
         ("cycle - -\r\ncycles - -", 2, Wrong::UnknownCall),
         ("press 255\npress 256", 2, Wrong::NotANumber),
-        ("record 1 2 3", 1, Wrong::MissingWord),
+        ("press 1A", 1, Wrong::NotANumber),
+        ("press x y", 1, Wrong::ExtraWord),
+        ("press\u{b}1", 1, Wrong::UnknownCall),
+        ("Press 1", 1, Wrong::UnknownCall),
+        ("record x 2 3", 1, Wrong::MissingWord),
         ("record 1 2 x 4294967296", 1, Wrong::NotANumber),
         ("order", 1, Wrong::MissingWord),
         ("order halt 1 2", 1, Wrong::UnknownOrder),
+        ("order Sign", 1, Wrong::UnknownOrder),
+        ("order level 256", 1, Wrong::NotANumber),
+        ("order withdraw 256", 1, Wrong::NotANumber),
+        ("order text 1", 1, Wrong::MissingWord),
+        ("order text 256 seen", 1, Wrong::NotANumber),
         ("order stop 1", 1, Wrong::ExtraWord),
         ("order authority fs", 1, Wrong::UnknownMode),
         ("order text 1 seen", 1, Wrong::NeitherWantedNorShown),
@@ -73,9 +84,13 @@ fn numbers(entry: &Entry) -> [u32; 5] {
         } => [2, *driver, *length, *percentage, *speed],
         Entry::Order(Order::Authority(mode)) => [3, mode.code() as u32, 0, 0, 0],
         Entry::Order(Order::Level(n)) => [4, *n as u32, 0, 0, 0],
-        Entry::Order(Order::Text { number, wanted, .. }) => {
-            [5, *number as u32, *wanted as u32, 0, 0]
-        }
+        Entry::Order(
+            Order::Text {
+                number,
+                wanted,
+                text,
+            },
+        ) => [5, *number as u32, *wanted as u32, text.len() as u32, 0],
         Entry::Order(Order::TextWithdrawal(n)) => [6, *n as u32, 0, 0, 0],
         Entry::Order(Order::EmergencyStop) => [7, 0, 0, 0, 0],
         Entry::Order(Order::Permission) => [8, 0, 0, 0, 0],
@@ -95,13 +110,21 @@ fn first_numbers(heap: Global, text: &str) -> Option<[u32; 5]> {
 fn calls_in_numbers(rt: HostRuntime) {
     let heap = rt.alloc();
     for (text, found) in [
-        ("press 010", [1, 10, 0, 0, 0]),
+        ("press 000000000010", [1, 10, 0, 0, 0]),
+        ("press 255", [1, 255, 0, 0, 0]),
+        (
+            "record 4294967295 4294967294 4294967293 4294967292",
+            [2, 4294967295, 4294967294, 4294967293, 4294967292],
+        ),
         ("record 7 4294967295 0 12", [2, 7, 4294967295, 0, 12]),
         ("order authority SF", [3, 9, 0, 0, 0]),
         ("order level 3", [4, 3, 0, 0, 0]),
+        ("order level 255", [4, 255, 0, 0, 0]),
         ("order text 20 wanted", [5, 20, 1, 0, 0]),
         ("order text 21 shown", [5, 21, 0, 0, 0]),
+        ("order text 255 shown", [5, 255, 0, 0, 0]),
         ("order withdraw 20", [6, 20, 0, 0, 0]),
+        ("order withdraw 255", [6, 255, 0, 0, 0]),
         ("order stop", [7, 0, 0, 0, 0]),
         ("order permission", [8, 0, 0, 0, 0]),
         ("order sign", [9, 0, 0, 0, 0]),
@@ -112,13 +135,13 @@ fn calls_in_numbers(rt: HostRuntime) {
 
 #[test]
 fn good_lines(rt: HostRuntime) -> Result<(), Fail> {
-    let text = "# a morning\n\n\tcycle 80Ff -\r\ntelegram 6002";
+    let text = "# a morning\n  #in May\n \r\n\tcycle 80Ff -\r\ntelegram  6002 ";
     let listed = match read_list(rt.alloc(), text.as_bytes()) {
         Ok(listed) => listed,
         Err(_) => return Err(Fail::new("a good list was refused")),
     };
     assert!(rt; listed.len() == 2);
-    assert_eq!(rt; (listed[0].line, listed[1].line), (3, 4));
+    assert_eq!(rt; (listed[0].line, listed[1].line), (4, 5));
     match (&listed[0].entry, &listed[1].entry) {
         (Entry::Cycle { bus, pulse }, Entry::Telegram(bytes)) => {
             assert_eq!(rt; bus.as_slice(), [0x80, 0xff].as_slice());

@@ -1,8 +1,8 @@
-ghost use Rattle.std.specs.Prelude.{◌≡◌, ◌<◌, ◌≤◌, true, false, ◌&&◌, map, length, take, drop, IfOk, Decides};
+ghost use Rattle.std.specs.Prelude.{◌≡◌, ◌<◌, ◌≤◌, true, false, ◌&&◌, map, length, take, drop, IfOk, IfErr, Decides};
 ghost use Rattle.cab_unit.specs.Events.{said};
 ghost use Rattle.compare.specs.Asked.{asked};
 ghost use Rattle.compare.specs.Compared.{LawApplies};
-ghost use Rattle.compare.specs.Walked.{AsLong, Compared, Front, Texts, Walked, is_alike, is_reordered, text_next};
+ghost use Rattle.compare.specs.Walked.{AsLong, Compared, Front, Texts, Walked, is_alike, is_reordered, shortest, text_next};
 
 use crate::asked::{is_text, same_asked};
 use crate::run::Run;
@@ -71,7 +71,8 @@ fn compare_front(heap: Global, run: Run<'_>, other: Run<'_>) -> Result<Step, All
 // Lists with as many answers, front by front.
 fn walk_lists(heap: Global, mut run: Run<'_>, mut other: Run<'_>) -> Result<Likeness, AllocError>
     requires { AsLong (asked run) run.answers.now (asked other) other.answers.now }
-    ensures { IfOk result (λ l. Walked l.alike l.reordered.items (asked run.entry) run.entry.answers.now (asked other.entry) other.entry.answers.now) }
+    ensures value { IfOk result (λ l. Walked l.alike l.reordered.items (asked run.entry) run.entry.answers.now (asked other.entry) other.entry.answers.now) }
+    ensures memory { IfErr result (λ _. 0 < length (asked run.entry)) }
 {
     let mut alike = true;
     let mut reordered = Vec::new(heap);
@@ -102,6 +103,7 @@ pub(crate) fn compare_lists(
 ) -> Result<Likeness, AllocError>
     ensures value { IfOk result (λ l. Compared l.alike l.reordered.items (asked run.entry) run.entry.answers.now (asked other.entry) other.entry.answers.now) }
     ensures law { IfOk result (λ l. (l.alike ≡ true → LawApplies l.reordered.items (asked run.entry) run.entry.answers.now (asked other.entry) other.entry.answers.now)) }
+    ensures memory { IfErr result (λ _. 0 < shortest (asked run.entry) run.entry.answers.now (asked other.entry) other.entry.answers.now) }
 {
     let n = run.len().min(other.len());
     let Likeness { alike, reordered } = walk_lists(heap, run.cut(n), other.cut(n))?;

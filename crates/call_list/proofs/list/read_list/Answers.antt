@@ -20,7 +20,7 @@ returns-in_err-note_line-clause-reads c =
     let p = err_from_is_err_and c.from_residual.result c.from_residual.ensures.1 in
     rw (p.1, p.2)
     (list_bad (vec_items c.loop-i.listed) (vec_items c.note_line.new.listed) (length c.loop-i.yielded) _ all c.in-Some.line.now turn.0 (omega (arith, turn.1)) turn.2
-    c.args.text.now c.in_err-note_line.field-0.0 c.loop-i.invariant.0 c.in_err-note_line.ensures.noted)
+    c.args.text.now c.in_err-note_line.field-0.0 c.loop-i.invariant.0 c.in_err-note_line.ensures)
 
 pub returns-in_err-note_line-clause-value : goal.returns-in_err-note_line-clause-value
 returns-in_err-note_line-clause-value c =
@@ -30,7 +30,7 @@ returns-in_err-note_line-clause-value c =
     let p = err_from_is_err_and c.from_residual.result c.from_residual.ensures.1 in
     rw (p.1, p.2)
     (list_wants (vec_items c.loop-i.listed) (vec_items c.note_line.new.listed) (length c.loop-i.yielded) _ all c.in-Some.line.now turn.0 (omega (arith, turn.1)) turn.2
-    c.args.text.now c.in_err-note_line.field-0.0 c.loop-i.invariant.0 c.loop-i.invariant.1 c.in_err-note_line.ensures.value)
+    c.args.text.now c.in_err-note_line.field-0.0 c.loop-i.invariant.0 c.loop-i.invariant.1 c.in_err-note_line.ensures)
 
 pub loop-i-preserved : goal.loop-i-preserved
 loop-i-preserved c =
@@ -38,9 +38,9 @@ loop-i-preserved c =
     let road = pieces_road {r = c.split.result} c.args.text.now _ _ c.loop-i.yielded_by c.split.ensures.rest c.split.ensures.done c.split.ensures.closure (cc) (cc) (λ x b q k. search (rules, tests)) in
     let turn = piece_turn all road _ _ c.loop-i.yielded_by _ c.next.new.self (c.in-Some.i, c.in-Some.line) c.in-Some.is c.next.ensures.steps in (
       list_more (vec_items c.loop-i.listed) (vec_items c.note_line.new.listed) (length c.loop-i.yielded) _ all c.in-Some.line.now turn.0 (omega (arith, turn.1)) turn.2
-          _ c.loop-i.invariant.0 _ tt (length_push c.loop-i.yielded (c.in-Some.i, c.in-Some.line)) c.in_ok-note_line.ensures.noted,
+          _ c.loop-i.invariant.0 _ tt (length_push c.loop-i.yielded (c.in-Some.i, c.in-Some.line)) c.in_ok-note_line.ensures,
       λ h. c.loop-i.invariant.1 (want_more (vec_items c.loop-i.listed) (vec_items c.note_line.new.listed) (length c.loop-i.yielded) _ all c.in-Some.line.now
-          turn.0 (omega (arith, turn.1)) turn.2 _ tt (length_push c.loop-i.yielded (c.in-Some.i, c.in-Some.line)) c.in_ok-note_line.ensures.noted h),
+          turn.0 (omega (arith, turn.1)) turn.2 _ tt (length_push c.loop-i.yielded (c.in-Some.i, c.in-Some.line)) c.in_ok-note_line.ensures h),
     )
 
 pub returns-clause-reads : goal.returns-clause-reads

@@ -28,5 +28,5 @@ loop-run-preserved c =
           (walk_more r c.behind-run.ensures.calls c.behind-run.ensures.answers c.behind-other.ensures.calls c.behind-other.ensures.answers c.loop-run.alike (vec_items v) c.loop-run.invariant.2),
     )
 
-pub returns : goal.returns
-returns c = walk_past _ _ c.loop-run.invariant.0 (search (rules, length-map)) c.loop-run.invariant.2
+pub returns-clause-value : goal.returns-clause-value
+returns-clause-value c = walk_past _ _ c.loop-run.invariant.0 (search (rules, length-map)) c.loop-run.invariant.2
