@@ -32,6 +32,7 @@ fn bad_lines(rt: HostRuntime) {
         ("press x y", 1, Wrong::ExtraWord),
         ("press\u{b}1", 1, Wrong::UnknownCall),
         ("Press 1", 1, Wrong::UnknownCall),
+        ("record 1 2 3", 1, Wrong::MissingWord),
         ("record x 2 3", 1, Wrong::MissingWord),
         ("record 1 2 x 4294967296", 1, Wrong::NotANumber),
         ("order", 1, Wrong::MissingWord),
@@ -110,6 +111,7 @@ fn first_numbers(heap: Global, text: &str) -> Option<[u32; 5]> {
 fn calls_in_numbers(rt: HostRuntime) {
     let heap = rt.alloc();
     for (text, found) in [
+        ("press 010", [1, 10, 0, 0, 0]),
         ("press 000000000010", [1, 10, 0, 0, 0]),
         ("press 255", [1, 255, 0, 0, 0]),
         (
@@ -135,20 +137,27 @@ fn calls_in_numbers(rt: HostRuntime) {
 
 #[test]
 fn good_lines(rt: HostRuntime) -> Result<(), Fail> {
-    let text = "# a morning\n  #in May\n \r\n\tcycle 80Ff -\r\ntelegram  6002 ";
-    let listed = match read_list(rt.alloc(), text.as_bytes()) {
-        Ok(listed) => listed,
-        Err(_) => return Err(Fail::new("a good list was refused")),
-    };
-    assert!(rt; listed.len() == 2);
-    assert_eq!(rt; (listed[0].line, listed[1].line), (4, 5));
-    match (&listed[0].entry, &listed[1].entry) {
-        (Entry::Cycle { bus, pulse }, Entry::Telegram(bytes)) => {
-            assert_eq!(rt; bus.as_slice(), [0x80, 0xff].as_slice());
-            assert_eq!(rt; pulse.len(), 0);
-            assert_eq!(rt; bytes.as_slice(), [0x60, 0x02].as_slice());
-            Ok(())
+    for (text, lines) in [
+        ("# a morning\n\n\tcycle 80Ff -\r\ntelegram 6002", (3, 4)),
+        (
+            "# a morning\n  #in May\n \r\n\tcycle 80Ff -\r\ntelegram  6002 ",
+            (4, 5),
+        ),
+    ] {
+        let listed = match read_list(rt.alloc(), text.as_bytes()) {
+            Ok(listed) => listed,
+            Err(_) => return Err(Fail::new("a good list was refused")),
+        };
+        assert!(rt; listed.len() == 2);
+        assert_eq!(rt; (listed[0].line, listed[1].line), lines);
+        match (&listed[0].entry, &listed[1].entry) {
+            (Entry::Cycle { bus, pulse }, Entry::Telegram(bytes)) => {
+                assert_eq!(rt; bus.as_slice(), [0x80, 0xff].as_slice());
+                assert_eq!(rt; pulse.len(), 0);
+                assert_eq!(rt; bytes.as_slice(), [0x60, 0x02].as_slice());
+            }
+            _ => return Err(Fail::new("other calls than were written")),
         }
-        _ => Err(Fail::new("other calls than were written")),
     }
+    Ok(())
 }

@@ -55,6 +55,9 @@ fn a_shelf_of_two(rt: HostRuntime) {
     );
     assert_eq!(rt; shelf.first(), Some(1));
     assert_eq!(rt; shelf.take_out(2), Err(ShelfRefusal::NoSuchPosition));
+    assert_eq!(rt; shelf.take_out(0), Ok(marked(6, 'b')));
+    assert_eq!(rt; shelf.live(), [marked(4, 'a')].as_slice());
+    assert_eq!(rt; shelf.put_front(marked(6, 'b')), Ok(()));
     assert_eq!(rt; shelf.take_out(1), Ok(marked(4, 'a')));
     assert_eq!(rt; shelf.live(), [marked(6, 'b')].as_slice());
 }
