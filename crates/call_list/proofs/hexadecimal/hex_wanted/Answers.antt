@@ -1,4 +1,4 @@
-use Rattle.std.proofs.Common.{◌≡◌, List, ℕ, true, false, Some, None, Option, is_some, sym, refl, ◌∙◌, rules}
+use Rattle.std.proofs.Common.{◌≡◌, List, ℕ, false, Some, None, Option, is_some, sym, refl, ◌∙◌, rules}
 use Rattle.std.proofs.lemmas.Bool.{true≢false}
 use Rattle.call_list.specs.Hex.{hex_bytes}
 use Rattle.call_list.proofs.hexadecimal.hex_wanted.Goals as goal
