@@ -261,3 +261,32 @@ fn failures_in_words(rt: HostRuntime) -> Result<(), Fail> {
     assert!(rt; matches!(full, Failure::NoMemory));
     Ok(())
 }
+
+// Which words stand behind each row, for texts of one letter: the top message is the newest, of one cycle that of the smallest number.
+#[test]
+fn messages(rt: HostRuntime) -> Result<(), Fail> {
+    let list = "cycle 8000 00000000
+telegram 3005010041
+telegram 3005020042
+cycle 8000 00000000
+telegram 3005020043
+order withdraw 2
+cycle 8000 00000000
+telegram 3005038044
+order withdraw 3
+telegram 3005048045
+press 1
+telegram 30050a006130050b006230050c006330050d006430050e006530050f0066300510006730051100683005120069300513006a
+cycle 8000 00000000
+telegram 30051e007a
+press 9
+";
+    let (_, printed) = report(&rt, false, list, None)?;
+    let mut words = String::new(rt.alloc());
+    for row in printed.lines().skip(1) {
+        let message = row.get(94..).unwrap_or("").trim_start();
+        words.push_str(if message.is_empty() { "." } else { message })?;
+    }
+    assert_eq!(rt; words.as_str(), "..A.A.AC.CCD.CE.Caaaaaaaaaa.az....");
+    Ok(())
+}
