@@ -88,9 +88,12 @@ ReachedEdges =
     × ((replied (supervised ++ (at20 ∷ [])) (press 5)).mode ≡ StaffResponsible)
     × ((ran (supervised ++ (rolling ∷ order stop ∷ []))).desk.mode ≡ Trip)
 
--- twelve texts
+-- eleven texts, and twelve
+abbrev pub eleven : List Event
+eleven = text' 1 ∷ text' 2 ∷ text' 3 ∷ text' 4 ∷ text' 5 ∷ text' 6 ∷ text' 7 ∷ text' 8 ∷ text' 9 ∷ text' 10 ∷ text' 11 ∷ []
+
 abbrev pub twelve : List Event
-twelve = text' 1 ∷ text' 2 ∷ text' 3 ∷ text' 4 ∷ text' 5 ∷ text' 6 ∷ text' 7 ∷ text' 8 ∷ text' 9 ∷ text' 10 ∷ text' 11 ∷ text' 12 ∷ []
+twelve = eleven ++ (text' 12 ∷ [])
 
 -- Override ends the authority. In one cycle a level request is before a text. Close desk withdraws a text. On Sight raises its timed
 -- request, and a repeated authority for it raises nothing. A second level order withdraws the first one's request. Twelve texts may

@@ -6,6 +6,8 @@ pub mod Laws
 pub mod Pretences
 pub mod Edges
 pub mod Rows
+pub mod Calls
+pub mod LastCycle
 pub mod Readings
 pub mod View
 pub mod Both

@@ -1,14 +1,15 @@
 -- Rows of the unit's tables with the numbers written out, each told by a list of calls on an unused unit.
 use Rattle.std.specs.Prelude.{◌≡◌, ℕ, false, List, [], ◌∷◌, ◌++◌, map, replicate, None}
-use Rattle.telegram.specs.Format.{OrderValue.authority, OrderValue.level, OrderValue.withdrawal, OrderValue.stop, OrderValue.permission}
+use Rattle.telegram.specs.Format.{OrderValue.authority, OrderValue.level, OrderValue.text, OrderValue.withdrawal, OrderValue.stop, OrderValue.sign, OrderValue.permission}
 use Rattle.telegram.specs.Modes.{mode_code}
-use Rattle.telegram.specs.declared.modes.Mode.TheVariants.{FullSupervision, OnSight, LimitedSupervision, Shunting}
+use Rattle.telegram.specs.declared.modes.Mode.TheVariants.{Standby, StaffResponsible, FullSupervision, OnSight, LimitedSupervision, Shunting, Unfitted, Trip, PostTrip, SystemFailure}
 use Rattle.train_end.specs.Bus.{bus_reading}
 use Rattle.cab_unit.specs.Events.{Event, Event.order, Event.press, Event.take}
 use Rattle.driver_desk.specs.Numbers.{outcome_number}
+use Rattle.driver_desk.specs.declared.level.Level.TheVariants.{Zero}
 use Rattle.driver_desk.specs.declared.request.Class.TheVariants as class
 use Rattle.bench.specs.Book.{Book, new_book, book_of}
-use Rattle.bench.specs.Edges.{still, rolling, at20, record', ran, replied, text', started, on_sight, supervised}
+use Rattle.bench.specs.Edges.{still, rolling, at20, record', ran, replied, text', started, on_sight, supervised, eleven, twelve}
 use Rattle.bench.specs.Entries.{Entry, no_entry, entry_of}
 use Rattle.bench.specs.Runs.{all_answers}
 
@@ -27,12 +28,20 @@ after_trip = tripped ++ (press 1 ∷ [])
 abbrev pub pending_after_trip : List Event
 pending_after_trip = pending ++ (order (authority FullSupervision) ∷ order stop ∷ still ∷ press 1 ∷ press 2 ∷ [])
 
+-- standing in Unfitted
+abbrev pub unfitted : List Event
+unfitted = still ∷ record' ∷ press 2 ∷ press 1 ∷ []
+
+-- a text that wants no acknowledgement
+abbrev pub unwanted : ℕ → Event
+unwanted n = order (text n false (0x48 ∷ []))
+
 -- the modes that calls can reach, each standing: Standby, Standby with a start pending, Staff Responsible, Full Supervision, On Sight,
 -- Limited Supervision, Shunting, Unfitted, Trip, Post Trip, Post Trip with a start pending
 abbrev pub reached : List (List Event)
 reached =
     (still ∷ []) ∷ pending ∷ started ∷ supervised ∷ (started ++ (order (authority OnSight) ∷ [])) ∷ (started ++ (order (authority LimitedSupervision) ∷ []))
-    ∷ (still ∷ press 3 ∷ []) ∷ (still ∷ record' ∷ press 2 ∷ press 1 ∷ []) ∷ tripped ∷ after_trip ∷ pending_after_trip ∷ []
+    ∷ (still ∷ press 3 ∷ []) ∷ unfitted ∷ tripped ∷ after_trip ∷ pending_after_trip ∷ []
 
 abbrev pub outcome_of : List Event → Event → ℕ
 outcome_of es e = outcome_number (replied es e).outcome
@@ -41,10 +50,19 @@ outcome_of es e = outcome_number (replied es e).outcome
 abbrev pub heard_after : List Event → List ℕ
 heard_after es = outcome_of es (order (authority FullSupervision)) ∷ outcome_of es (order (level 1)) ∷ outcome_of es (order stop) ∷ outcome_of es (order permission) ∷ []
 
+-- what Sign, a text that wants acknowledgement, one that wants none, and the withdrawal of a waiting text meet there
+abbrev pub always_after : List Event → List ℕ
+always_after es = outcome_of es (order sign) ∷ outcome_of es (text' 200) ∷ outcome_of es (unwanted 200) ∷ outcome_of (es ++ (text' 200 ∷ [])) (order (withdrawal 200)) ∷ []
+
+-- an Authority for each mode, in the order of the codes, heard in Staff Responsible
 abbrev pub HeardRows : Type 0
-HeardRows = map heard_after reached ≡
+HeardRows = (map heard_after reached ≡
     (30 ∷ 30 ∷ 30 ∷ 30 ∷ []) ∷ (0 ∷ 30 ∷ 30 ∷ 0 ∷ []) ∷ (0 ∷ 0 ∷ 0 ∷ 30 ∷ []) ∷ (0 ∷ 0 ∷ 0 ∷ 30 ∷ []) ∷ (0 ∷ 0 ∷ 0 ∷ 30 ∷ []) ∷ (0 ∷ 0 ∷ 0 ∷ 30 ∷ [])
-    ∷ (30 ∷ 30 ∷ 30 ∷ 30 ∷ []) ∷ (30 ∷ 0 ∷ 30 ∷ 30 ∷ []) ∷ (30 ∷ 30 ∷ 30 ∷ 30 ∷ []) ∷ (30 ∷ 30 ∷ 30 ∷ 30 ∷ []) ∷ (0 ∷ 30 ∷ 30 ∷ 0 ∷ []) ∷ []
+    ∷ (30 ∷ 30 ∷ 30 ∷ 30 ∷ []) ∷ (30 ∷ 0 ∷ 30 ∷ 30 ∷ []) ∷ (30 ∷ 30 ∷ 30 ∷ 30 ∷ []) ∷ (30 ∷ 30 ∷ 30 ∷ 30 ∷ []) ∷ (0 ∷ 30 ∷ 30 ∷ 0 ∷ []) ∷ [])
+    × (map always_after reached ≡ replicate 11 (0 ∷ 0 ∷ 0 ∷ 0 ∷ []))
+    × (map (λ m. outcome_of started (order (authority m)))
+    (Standby ∷ StaffResponsible ∷ FullSupervision ∷ OnSight ∷ LimitedSupervision ∷ Shunting ∷ Unfitted ∷ Trip ∷ PostTrip ∷ SystemFailure ∷ [])
+    ≡ 23 ∷ 23 ∷ 0 ∷ 0 ∷ 0 ∷ 23 ∷ 23 ∷ 23 ∷ 23 ∷ 23 ∷ [])
 
 -- the mode's code, and the enabled buttons standing and at 20 km/h
 abbrev pub shown_after : List Event → List ℕ
@@ -57,6 +75,16 @@ ButtonRows = map shown_after reached ≡
 
 abbrev pub numbers : ℕ → ℕ → ℕ → ℕ → Event
 numbers d l p v = take (record { driver = d; length = l; percentage = p; speed = v })
+
+-- 23 is told before 30, the draft's refusal before 14, and 31 before 32; a text that wants nothing meets neither 31 nor 32; a hold takes
+-- no text's room; 33 and 34 ask for the text of that number alone
+abbrev pub FirstRefusals : Type 0
+FirstRefusals =
+    (outcome_of (still ∷ []) (order (level 3)) ≡ 23) × (outcome_of [] (numbers 0 0 0 0) ≡ 10)
+    × (outcome_of twelve (text' 1) ≡ 31) × (outcome_of twelve (unwanted 1) ≡ 0)
+    × (outcome_of (still ∷ rolling ∷ eleven) (text' 12) ≡ 0)
+    × (outcome_of (text' 9 ∷ replicate 51 still) (order (withdrawal 4)) ≡ 33)
+    × (outcome_of (text' 9 ∷ replicate 51 still ++ (text' 4 ∷ [])) (order (withdrawal 4)) ≡ 0)
 
 -- no button 0 or 10; a button that is not enabled; numbers that no draft takes, at both ends of each range; a taking with the speed
 -- unknown; a mode and a level outside their lists; a text that waits already; a text that does not wait, and one that is overdue
@@ -77,11 +105,13 @@ book_after es = book_of es (all_answers bus_reading None es) new_book
 abbrev pub entry_after : List Event → Entry
 entry_after es = entry_of es (all_answers bus_reading None es) no_entry
 
+-- A new book: Standby, level 0, nothing open.
 -- On Sight tripped: Staff Responsible was raised and acknowledged, On Sight raised and withdrawn, the trip raised, and it alone is open.
 -- A level request is withdrawn by the next Level order, a text by its number, and all three kinds by Close desk, which leaves a hold.
 abbrev pub BookRows : Type 0
 BookRows =
-    ((book_after (on_sight ++ (order stop ∷ []))).raisings class.Mode 1 ≡ 1)
+    (new_book.mode ≡ Standby) × (new_book.level ≡ Zero) × (new_book.opened ≡ [])
+    × ((book_after (on_sight ++ (order stop ∷ []))).raisings class.Mode 1 ≡ 1)
     × ((book_after (on_sight ++ (order stop ∷ []))).acknowledgements class.Mode 1 ≡ 1)
     × ((book_after (on_sight ++ (order stop ∷ []))).raisings class.Mode 3 ≡ 1)
     × ((book_after (on_sight ++ (order stop ∷ []))).withdrawals class.Mode 3 ≡ 1)

@@ -1,5 +1,7 @@
+ghost use Rattle.bench.specs.Calls.{OrderRows, PressRows, CycleRows};
 ghost use Rattle.bench.specs.Edges.{Edges, ReachedEdges, MoreEdges};
-ghost use Rattle.bench.specs.Rows.{HeardRows, ButtonRows, RefusalRows, BookRows, EntryRows};
+ghost use Rattle.bench.specs.LastCycle.{LastRows};
+ghost use Rattle.bench.specs.Rows.{HeardRows, ButtonRows, RefusalRows, FirstRefusals, BookRows, EntryRows};
 
 // The edges hold of the definitions.
 pub fn edges_stand() -> u8
@@ -9,6 +11,11 @@ pub fn edges_stand() -> u8
     ensures heard { HeardRows }
     ensures buttons { ButtonRows }
     ensures refusals { RefusalRows }
+    ensures told_first { FirstRefusals }
+    ensures orders { OrderRows }
+    ensures presses { PressRows }
+    ensures cycles { CycleRows }
+    ensures last { LastRows }
     ensures book { BookRows }
     ensures entries { EntryRows }
 {

@@ -10,3 +10,4 @@ pub mod Alone
 pub mod Known
 pub mod Stepping
 pub mod Reading
+pub mod Taking

@@ -11,6 +11,7 @@ use train_end::TrainEnd;
 pub fn confirm_one<E: TrainEnd>(end: E, draft: Draft) -> (Answer, E)
     ensures answer { result.0 ≡ reply E.reading (events.Event.take draft.train) (switched_on (E.speed_of end)) }
     ensures line { E.line_of result.1 ≡ Emergency }
+    ensures speed { E.speed_of result.1 ≡ E.speed_of end }
 {
     let mut unit = Unit::switch_on(end);
     let confirmed = draft.yes();

@@ -12,9 +12,14 @@ returns c = record {
   edges = (refl, refl, refl, refl, refl, refl, refl, refl, refl, refl, refl, refl, refl, refl, refl, refl, refl, (refl, refl), (refl, refl, refl), (refl, refl, refl, refl, refl));
   reached = (refl, refl, refl, refl, refl);
   more = (refl, refl, refl, refl, refl, refl, refl, refl, refl, refl, refl, refl, refl, refl, refl, refl, refl);
-  heard = refl;
+  heard = (refl, refl, refl);
   buttons = refl;
   refusals = (refl, refl, refl, refl, refl, refl, refl, refl, refl, refl, refl, refl);
-  book = (refl, refl, refl, refl, refl, refl, refl, refl, refl);
+  told_first = (refl, refl, refl, refl, refl, refl, refl);
+  orders = (refl, refl, refl, refl, refl, refl, refl, refl, refl, refl, refl, refl, refl, refl, refl, refl, refl, refl, refl);
+  presses = (refl, refl, refl, refl, refl, refl, refl, refl, refl, refl, refl, refl);
+  cycles = (refl, refl, refl, refl, refl, refl, refl, refl, refl, refl, refl);
+  last = (refl, refl, refl, refl, refl, refl, refl);
+  book = (refl, refl, refl, refl, refl, refl, refl, refl, refl, refl, refl, refl);
   entries = (refl, refl, refl, refl, refl, refl, refl);
 }
