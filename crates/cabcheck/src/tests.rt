@@ -170,6 +170,20 @@ the lists are not the same up to blocks and the order of neighbouring texts; the
     Ok(())
 }
 
+// The same calls up to blocks, on ends that read other speeds: the law does not apply, and the answers differ.
+#[test]
+fn speeds_that_differ(rt: HostRuntime) -> Result<(), Fail> {
+    let second = "cycle - 00000001\n";
+    let (agree, printed) = report(&rt, false, "cycle 8000 -\n", Some(second))?;
+    assert!(rt; !agree);
+    let told = "the speeds differ after 1 calls
+the lists are the same up to blocks and the order of neighbouring texts; the speeds were not equal
+1 calls in the bus cab, 1 in the pulse cab, 1 answers compared: 1 differ
+";
+    assert!(rt; printed.ends_with(told));
+    Ok(())
+}
+
 // Wherever writing fails, that is what is told.
 #[test]
 fn output_that_cannot_be_written(rt: HostRuntime) -> Result<(), Fail> {
