@@ -15,7 +15,7 @@ use telegram::Mode;
 use train_end::{BrakeLine, TrainEnd};
 
 // Two cabs after their runs, with the answer to each call. The caller switches the units off.
-// Each list of answers is as long as its own list of calls; the units are fields here as in Cabs, since clauses and callers read them.
+// Each list of answers is as long as its own list of calls, so the two can't be one list of pairs; the units are fields here as in Cabs, since clauses and callers read them.
 pub struct Ran<E, F> {
     pub one: Unit<E>,
     pub other: Unit<F>,

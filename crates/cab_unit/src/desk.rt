@@ -51,6 +51,7 @@ impl Desk {
             && self.authority
     }
 
+    // Who hears an order: a match with each mode by name, as the table has a row for each, so that a new mode has to be told here.
     pub(crate) fn hears_authority(&self) -> bool
         ensures { result ≡ hears_authority self.now.mode self.now.pending }
     {

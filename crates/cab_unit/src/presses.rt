@@ -51,6 +51,7 @@ impl<E: TrainEnd> Cab<E> {
         let ended = self.waiting.end_first();
         let withdrawn = match entered_by(ended) {
             Some(mode) => self.enter(mode),
+            // No mode is entered, so nothing is withdrawn.
             None => 0,
         };
         Done {

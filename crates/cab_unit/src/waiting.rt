@@ -33,7 +33,7 @@ impl Waiting {
         self.items.len() as u8
     }
 
-    // Whether a request of this class and number waits.
+    // Whether a request of this class and number waits. The two stand apart, as order, book and laws speak of them; a pair of them would be one more kind of request.
     pub fn holds(&self, class: Class, number: u8) -> bool
         ensures { result ≡ waits class number (ordered self.now.items) }
     {

@@ -1,5 +1,5 @@
 -- The columns of tab-separated rows behind the name of the call.
-use Rattle.std.specs.Prelude.{ℕ, List, [], ◌∷◌, ◌++◌, codes, decimal}
+use Rattle.std.specs.Prelude.{ℕ, List, [], ◌∷◌, ◌++◌, Ok, Err, codes, decimal}
 use Rattle.train_end.specs.Line.{line_number}
 use Rattle.telegram.specs.Modes.{mode_name}
 use Rattle.driver_desk.specs.Numbers.{level_number, outcome_number}
@@ -7,7 +7,7 @@ use Rattle.driver_desk.specs.declared.answer.Answer.{Answer}
 use Rattle.cabcheck.specs.Notes.{note_number}
 use Rattle.cabcheck.specs.Words.{request_column}
 use Rattle.cabcheck.specs.declared.plan.Note.{Note}
-use Rattle.cabcheck.specs.declared.plan.Note.TheVariants.{Draft, Fault, End}
+use Rattle.cabcheck.specs.declared.plan.Note.TheVariants.{Draft, Reading}
 
 -- columns with a tab between two
 abbrev pub tabbed : List ℕ → List (List ℕ) → List ℕ
@@ -34,8 +34,8 @@ with_no_answer outcome place = tabbed (decimal outcome) (
 
 abbrev pub note_place : Note → List ℕ
 note_place (Draft refusal) = codes "-"
-note_place (Fault fault first) = decimal first
-note_place (End place) = decimal place
+note_place (Reading (Err r)) = decimal r.first
+note_place (Reading (Ok place)) = decimal place
 
 abbrev pub note_columns : Note → List ℕ
 note_columns note = with_no_answer (note_number note) (note_place note)

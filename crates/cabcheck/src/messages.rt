@@ -8,10 +8,10 @@ use window::line::Line;
 // How many lines the message window has.
 pub const ROWS: usize = 12;
 
-// The number of the button Close desk.
+// The number of the button Close desk. A press is told by its number, which may be that of no button.
 const CLOSE_DESK: u8 = 9;
 
-// A line that nothing shows yet.
+// A line that nothing shows yet. Lines have no default: one of zeros is a line of text 0.
 pub const FREE: Line = Line {
     cycle: 0,
     number: 0,
@@ -101,7 +101,7 @@ impl<'a> Messages<'a> {
         let _ = self.window.remove(number);
     }
 
-    // Over all numbers, since a window takes a line out by its number alone.
+    // Over all numbers: those of the lines would have to be copied first, since the window that lends its lines takes them out.
     fn take_out_all(&mut self) {
         for number in 0..=u8::MAX {
             self.take_out(number);

@@ -5,7 +5,7 @@ use cab_unit::Call;
 use call_list::{Entry, Listed};
 use driver_desk::{Draft, Refusal};
 use std::alloc::{AllocError, Global};
-use telegram::{Fault, Placed, Refused, read_all};
+use telegram::{Placed, Refused, read_all};
 
 // One of the two cabs.
 #[derive(Clone, Copy)]
@@ -27,8 +27,7 @@ impl Cab {
 #[derive(Clone, Copy, PartialEq, Eq)]
 pub enum Note {
     Draft(Refusal),
-    Fault { fault: Fault, first: usize },
-    End { place: usize },
+    Reading(Result<usize, Refused>),
 }
 
 impl Note {
@@ -37,8 +36,8 @@ impl Note {
     {
         match self {
             Note::Draft(_) => "draft",
-            Note::Fault { .. } => "fault",
-            Note::End { .. } => "end",
+            Note::Reading(Err(_)) => "fault",
+            Note::Reading(Ok(_)) => "end",
         }
     }
 
@@ -48,8 +47,8 @@ impl Note {
     {
         match self {
             Note::Draft(refusal) => refusal.number(),
-            Note::Fault { fault, .. } => fault.number(),
-            Note::End { .. } => 0,
+            Note::Reading(Err(refused)) => refused.fault.number(),
+            Note::Reading(Ok(_)) => 0,
         }
     }
 }
@@ -131,11 +130,7 @@ impl<'a> Plan<'a> {
         for placed in &reading.orders {
             self.add_call(line, Call::Order(placed.order), Some(*placed))?;
         }
-        let note = match reading.ending {
-            Ok(place) => Note::End { place },
-            Err(Refused { fault, first }) => Note::Fault { fault, first },
-        };
-        self.add_note(line, note)
+        self.add_note(line, Note::Reading(reading.ending))
     }
 
     fn add_call(

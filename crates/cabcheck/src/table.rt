@@ -9,34 +9,24 @@ use itertools::{EitherOrBoth, Itertools};
 use std::alloc::Global;
 use std::io::Write;
 use std::{fmt, io};
-use telegram::Placed;
+use telegram::{Placed, Refused};
 use train_end::{BusEnd, PulseEnd};
 
 // What stands behind the requests: the places of a telegram's order, or what the two ends read in the blocks of a cycle.
-// Blank is a case of its own, since it is printed too, and an Option can't be given a Display here.
+// Blank is a case of its own, since it is printed too: an Option in a struct, as below, would be one type more for the same three arms.
 #[derive(Clone, Copy)]
-enum Column {
+enum Column<'c> {
     Blank,
-    Places {
-        first: usize,
-        after: usize,
-    },
+    Placed(Placed<'c>),
     Speeds {
         bus: Option<u16>,
         pulse: Option<u16>,
     },
 }
 
-impl Column {
-    fn of_placed(placed: Placed<'_>) -> Column {
-        Column::Places {
-            first: placed.first,
-            after: placed.after,
-        }
-    }
-
+impl Column<'_> {
     // What the two ends read, where both rows tell of cycles.
-    fn of_cycles(told: &Told<Answered<'_>>, other: &Told<Answered<'_>>) -> Column {
+    fn of_cycles(told: &Told<Answered<'_>>, other: &Told<Answered<'_>>) -> Self {
         match (*told, *other) {
             (
                 Told::Call(
@@ -60,11 +50,11 @@ impl Column {
     }
 }
 
-impl fmt::Display for Column {
+impl fmt::Display for Column<'_> {
     fn fmt<W: fmt::Write>(&self, f: &mut fmt::Formatter<W>) -> fmt::Result {
         match *self {
             Column::Blank => f.write_str("             "),
-            Column::Places { first, after } => write!(f, " {first:>4} to {after:<4}"),
+            Column::Placed(Placed { first, after, .. }) => write!(f, " {first:>4} to {after:<4}"),
             Column::Speeds { bus, pulse } => {
                 let sign = if bus == pulse { "= " } else { "<>" };
                 let bus = Speed(bus);
@@ -112,8 +102,8 @@ impl fmt::Display for NoteWords {
     fn fmt<W: fmt::Write>(&self, f: &mut fmt::Formatter<W>) -> fmt::Result {
         match self.0 {
             Note::Draft(_) => Ok(()),
-            Note::Fault { fault, first } => write!(f, "  at {first}: {fault}"),
-            Note::End { place } => write!(f, "  at {place}"),
+            Note::Reading(Err(Refused { fault, first })) => write!(f, "  at {first}: {fault}"),
+            Note::Reading(Ok(place)) => write!(f, "  at {place}"),
         }
     }
 }
@@ -173,7 +163,7 @@ impl<W: Write> Table<'_, W> {
         line: usize,
         cab: &str,
         call: &str,
-        column: Column,
+        column: Column<'_>,
         answer: &Answer,
     ) -> io::Result<()> {
         let outcome = outcome_number(answer.outcome);
@@ -192,13 +182,18 @@ impl<W: Write> Table<'_, W> {
     }
 
     // A row of a cab; of a call that stands in no telegram, `column` comes behind the requests.
-    fn print_row(&mut self, cab: &str, row: &Row<Answered<'_>>, column: Column) -> io::Result<()> {
+    fn print_row(
+        &mut self,
+        cab: &str,
+        row: &Row<Answered<'_>>,
+        column: Column<'_>,
+    ) -> io::Result<()> {
         let line = row.line;
         match row.told {
             Told::Call(answered) => {
                 let call = CallWords(answered.call);
                 let call = format!(in self.heap; "{call}")?;
-                let column = answered.placed.map_or(column, Column::of_placed);
+                let column = answered.placed.map_or(column, Column::Placed);
                 self.print_answer(line, cab, call.as_str(), column, &answered.answer)
             }
             Told::Note(note) => {
@@ -239,7 +234,7 @@ impl<W: Write> Table<'_, W> {
         &mut self,
         cab: Cab,
         row: Option<Row<Answered<'_>>>,
-        column: Column,
+        column: Column<'_>,
         message: Message<'_>,
         mark: Mark,
     ) -> io::Result<()> {
@@ -264,6 +259,7 @@ pub fn print_table<W: Write + Drop>(
 ) -> io::Result<()> {
     let mut lines = [FREE; ROWS];
     let mut messages = Messages::new(heap, &mut lines);
+    // One mark for each call of the bus cab, as the comparison answers them.
     let mut reordered = likeness.reordered.iter();
     let mut table = Table { out, heap };
     writeln!(

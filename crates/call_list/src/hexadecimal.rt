@@ -34,7 +34,7 @@ pub(crate) fn hex_wanted(word: &[u8]) -> Result<&[u8], Wrong>
     }
 }
 
-// The bytes that such a word names.
+// The bytes that such a word names. A type for such words would be made in one place and read in one, and say no more than the clause.
 pub(crate) fn decode(heap: Global, word: &[u8]) -> Result<Vec<u8>, AllocError>
     requires { is_some (hex_bytes word.now) ≡ true }
     ensures { IfOk result (λ v. hex_bytes word.now ≡ Some (vec_items v)) }

@@ -56,7 +56,7 @@ fn read_at(telegram: &[u8], place: usize) -> Result<Option<Placed<'_>>, Fault>
         [high, low, ..] => (*high, *low),
     };
     let kind = Kind::try_from(high / 16)?;
-    let length = (high % 16) as usize * 256 + low as usize;
+    let length = u16::from_be_bytes([high % 16, low]) as usize;
     if !kind.takes_length(length) {
         return Err(Fault::WrongLength);
     }
