@@ -299,7 +299,11 @@ press 9
     let mut words = String::new(rt.alloc());
     for row in printed.lines().skip(1) {
         let message = row.get(94..).unwrap_or("").trim_start();
-        words.push_str(if message.is_empty() { "." } else { message })?;
+        if message.is_empty() {
+            words.push_str(".")?;
+        } else {
+            words.push_str(message)?;
+        }
     }
     assert_eq!(rt; words.as_str(), "..A.A.AC.CCD.CE.Caaaaaaaaaa.az....");
     Ok(())
