@@ -1,4 +1,4 @@
-ghost use Rattle.std.specs.Prelude.{◌≡◌, ◌&&◌, map, length, is_ok, IfOk, IfErr, if◌then◌else◌, Some, None, vec_len, ◌==◌};
+ghost use Rattle.std.specs.Prelude.{◌≡◌, ◌<◌, ◌+◌, ◌&&◌, map, length, is_ok, IfOk, IfErr, if◌then◌else◌, Some, None, vec_len, ◌==◌};
 ghost use Rattle.cab_unit.specs.Events.{said, Event.take as taken};
 ghost use Rattle.cab_unit.specs.Refusing.{failed};
 ghost use Rattle.driver_desk.specs.declared.refusal.Refusal.TheVariants.{InSystemFailure};
@@ -7,6 +7,7 @@ ghost use Rattle.bench.specs.Both.{AsDefined, LikeEnds};
 ghost use Rattle.bench.specs.Laws.{ByTheBook, ConfirmedOnce};
 ghost use Rattle.bench.specs.Runs.{after, answers as answers_of};
 ghost use Rattle.bench.specs.View.{view};
+ghost use Rattle.bench.specs.declared.runs.NotRun.TheVariants.{NoMemory};
 
 use cab_unit::{Call, Unit};
 use driver_desk::{Answer, Draft, Level, Refusal, TrainRecord};
@@ -27,6 +28,12 @@ pub struct Ran<E, F> {
 pub struct Cabs<E, F> {
     pub one: Unit<E>,
     pub other: Unit<F>,
+}
+
+// Why two lists were not run: memory for the answers was wanting. The ends that were handed in come back in it.
+#[derive(Drop)]
+pub enum NotRun<E, F> {
+    NoMemory(E, F),
 }
 
 // What a unit answers to numbers that no draft takes. In System Failure it says that before all else.
@@ -115,10 +122,14 @@ pub fn run_lent<E: TrainEnd, F: TrainEnd>(
     Ok(Cabs { one, other })
 }
 
-// A place for each of n answers. The blank is written out: no mode, level or line is one by default, and each place is written over.
+// A place for each of n answers, none of them in memory where n is 0. The blank is written out: no mode, level or line is one by default, and each place is written over.
 fn blank_answers(heap: Global, n: usize) -> Result<Vec<Answer>, AllocError>
-    ensures { IfOk result (λ v. vec_len v ≡ n) }
+    ensures places { IfOk result (λ v. vec_len v ≡ n) }
+    ensures memory { IfErr result (λ _. 0 < n) }
 {
+    if n == 0 {
+        return Ok(Vec::new(heap));
+    }
     let blank = Answer {
         outcome: None,
         mode: Mode::Standby,
@@ -143,31 +154,35 @@ pub fn run_both<E: TrainEnd, F: TrainEnd>(
     other: F,
     calls: &[Call<'_>],
     others: &[Call<'_>],
-) -> Result<Ran<E, F>, (E, F)>
+) -> Result<Ran<E, F>, NotRun<E, F>>
     ensures runs { IfOk result (λ ran. AsDefined E.TrainEnd.reading (E.TrainEnd.speed_of one) (map said calls.now) ran.answers.items (view E.TrainEnd ran.one) × AsDefined F.TrainEnd.reading (F.TrainEnd.speed_of other) (map said others.now) ran.other_answers.items (view F.TrainEnd ran.other)) }
     ensures book { IfOk result (λ ran. ByTheBook (map said calls.now) ran.answers.items (view E.TrainEnd ran.one) × ByTheBook (map said others.now) ran.other_answers.items (view F.TrainEnd ran.other)) }
     ensures entries { IfOk result (λ ran. ConfirmedOnce (map said calls.now) ran.answers.items (view E.TrainEnd ran.one) × ConfirmedOnce (map said others.now) ran.other_answers.items (view F.TrainEnd ran.other)) }
     ensures likeness { IfOk result (λ ran. LikeEnds E.TrainEnd.reading (E.TrainEnd.speed_of one) (map said calls.now) ran.answers.items (view E.TrainEnd ran.one) F.TrainEnd.reading (F.TrainEnd.speed_of other) (map said others.now) ran.other_answers.items (view F.TrainEnd ran.other)) }
-    ensures back { IfErr result (λ ends. (ends.0 ≡ one) × (ends.1 ≡ other)) }
+    ensures back { IfErr result (λ why. why ≡ NoMemory one other) }
+    ensures memory { IfErr result (λ _. 0 < length calls.now + length others.now) }
 {
     let Ok(mut answers) = blank_answers(heap, calls.len()) else {
-        return Err((one, other));
+        return Err(NotRun::NoMemory(one, other));
     };
     let Ok(mut other_answers) = blank_answers(heap, others.len()) else {
-        return Err((one, other));
+        return Err(NotRun::NoMemory(one, other));
     };
-    let Cabs { one, other } = run_lent(
+    match run_lent(
         one,
         other,
         calls,
         others,
         answers.as_mut_slice(),
         other_answers.as_mut_slice(),
-    )?;
-    Ok(Ran {
-        one,
-        other,
-        answers,
-        other_answers,
-    })
+    ) {
+        Ok(Cabs { one, other }) => Ok(Ran {
+            one,
+            other,
+            answers,
+            other_answers,
+        }),
+        // There are as many places as calls, so this does not come.
+        Err((one, other)) => Err(NotRun::NoMemory(one, other)),
+    }
 }

@@ -34,7 +34,7 @@ pub fn report_runs<W: Write + Drop>(
         &bus.calls,
         &pulse.calls,
     )
-    .map_err(|_ends| Failure::NoMemory)?;
+    .map_err(|_not_run| Failure::NoMemory)?;
     let _bus_end = one.switch_off();
     let _pulse_end = other.switch_off();
     let bus = Side::new(BusEnd::new(), &bus, &answers);

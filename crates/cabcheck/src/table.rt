@@ -8,7 +8,7 @@ use driver_desk::Answer;
 use itertools::{EitherOrBoth, Itertools};
 use std::alloc::Global;
 use std::io::Write;
-use std::{fmt, io};
+use std::{fmt, io, slice};
 use telegram::{Placed, Refused};
 use train_end::{BusEnd, PulseEnd};
 
@@ -85,7 +85,7 @@ struct Message<'s>(Option<&'s [u8]>);
 impl fmt::Display for Message<'_> {
     fn fmt<W: fmt::Write>(&self, f: &mut fmt::Formatter<W>) -> fmt::Result {
         if let Some(words) = self.0 {
-            f.write_str("  ")?;
+            f.write_str("   ")?;
             for byte in words {
                 f.write_char(*byte as char)?;
             }
@@ -176,7 +176,7 @@ impl<W: Write> Table<'_, W> {
         let first = format!(in self.heap; "{first}")?;
         write!(
             self.out,
-            "{line:>6} {cab:<5} {call:<14} {outcome:>3}  {mode} {level:>5} {brake:>5}"
+            "{line:>6} {cab:<5} {call:<14} {outcome:>3}  {mode:<4} {level:>5} {brake:>5}"
         )?;
         write!(self.out, " {buttons:>7} {waiting:>7}  {first:<14}{column}")
     }
@@ -229,6 +229,28 @@ impl<W: Write> Table<'_, W> {
         self.print_side(Cab::Pulse, other, column, Message(None), mark)
     }
 
+    // The next rows of both cabs, after the bus cab's call, if it is one, has brought its texts into the window.
+    fn print_next(
+        &mut self,
+        pair: Pair<'_, '_>,
+        messages: &mut Messages<'_>,
+        reordered: &mut slice::Iter<'_, bool>,
+    ) -> io::Result<()> {
+        let (row, _) = pair.left_and_right();
+        let mut in_another_order = false;
+        if let Some(
+            Row {
+                told: Told::Call(Answered { call, answer, .. }),
+                ..
+            },
+        ) = row
+        {
+            messages.show_call(&call, &answer)?;
+            in_another_order = reordered.next().copied().unwrap_or(false);
+        }
+        self.print_pair(pair, in_another_order, Message(messages.top_words()))
+    }
+
     // The row of one cab with its mark, or that it has no call where the other has one.
     fn print_side(
         &mut self,
@@ -272,20 +294,7 @@ pub fn print_table<W: Write + Drop>(
         pulse.rows(),
         |row, other| row.is_of_call().cmp(&other.is_of_call()),
     ) {
-        let (row, _) = pair.left_and_right();
-        let mut in_another_order = false;
-        if let Some(
-            Row {
-                told: Told::Call(Answered { call, answer, .. }),
-                ..
-            },
-        ) = row
-        {
-            messages.show_call(&call, &answer)?;
-            in_another_order = reordered.next().copied().unwrap_or(false);
-        }
-        let message = Message(messages.top_words());
-        table.print_pair(pair, in_another_order, message)?;
+        table.print_next(pair, &mut messages, &mut reordered)?;
     }
     Ok(())
 }

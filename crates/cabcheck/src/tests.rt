@@ -110,17 +110,17 @@ press 3
     assert_eq!(rt;
         printed.as_str(),
         "  line cab   call           out  mode level brake buttons waiting  first          bytes or km/h  message
-     0       on               0  SB     0     1       0       0  -                          
-     1       cycle            0  SB     0     0     484       0  -                 0 =     0
-     2 bus   text 9 wanted    0  SB     0     0     485       1  4:9@1t                         ~ another order
-     2 pulse text 2 shown     0  SB     0     0     484       0  -                 0 to 6     ~ another order
+     0       on               0  SB       0     1       0       0  -                          
+     1       cycle            0  SB       0     0     484       0  -                 0 =     0
+     2 bus   text 9 wanted    0  SB       0     0     485       1  4:9@1t                          ~ another order
+     2 pulse text 2 shown     0  SB       0     0     484       0  -                 0 to 6     ~ another order
      2 pulse end              0  at 6
-     3 bus   text 2 shown     0  SB     0     0     485       1  4:9@1t            0 to 6     Hi  ~ another order
-     3 pulse text 9 wanted    0  SB     0     0     485       1  4:9@1t                       ~ another order
+     3 bus   text 2 shown     0  SB       0     0     485       1  4:9@1t            0 to 6      Hi  ~ another order
+     3 pulse text 9 wanted    0  SB       0     0     485       1  4:9@1t                       ~ another order
      3 bus   fault           22  at 6: wrong length
-     4       press 1          0  SB     0     0     484       0  -                            Hi
+     4       press 1          0  SB       0     0     484       0  -                             Hi
      5 bus   draft           10
-     6       press 3          0  SH     0     0     264       0  -                            Hi
+     6       press 3          0  SH       0     0     264       0  -                             Hi
 the speeds differ after 0 calls
 the lists are the same up to blocks and the order of neighbouring texts; the speeds were equal
 5 calls in the bus cab, 5 in the pulse cab, 3 answers compared: all agree
@@ -137,11 +137,11 @@ fn calls_that_differ(rt: HostRuntime) -> Result<(), Fail> {
     assert_eq!(rt;
         printed.as_str(),
         "  line cab   call           out  mode level brake buttons waiting  first          bytes or km/h  message
-     0       on               0  SB     0     1       0       0  -                          
-     1 bus   cycle            0  SB     0     0     484       0  -                 0 <>    2  < differ
-     1 pulse cycle            0  SB     0     1       0       1  3:0@1u            0 <>    2  < differ
-     2 bus   press 3          0  SH     0     0     264       0  -                            < differ
-     2 pulse press 3          2  SB     0     1       0       1  3:0@1u                       < differ
+     0       on               0  SB       0     1       0       0  -                          
+     1 bus   cycle            0  SB       0     0     484       0  -                 0 <>    2  < differ
+     1 pulse cycle            0  SB       0     1       0       1  3:0@1u            0 <>    2  < differ
+     2 bus   press 3          0  SH       0     0     264       0  -                            < differ
+     2 pulse press 3          2  SB       0     1       0       1  3:0@1u                       < differ
 the speeds differ after 2 calls
 2 calls in the bus cab, 2 in the pulse cab, 2 answers compared: 2 differ
 "
@@ -157,10 +157,10 @@ fn one_cab_has_more_calls(rt: HostRuntime) -> Result<(), Fail> {
     assert_eq!(rt;
         printed.as_str(),
         "  line cab   call           out  mode level brake buttons waiting  first          bytes or km/h  message
-     0       on               0  SB     0     1       0       0  -                          
-     1       cycle            0  SB     0     0     484       0  -                 0 =     0
+     0       on               0  SB       0     1       0       0  -                          
+     1       cycle            0  SB       0     0     484       0  -                 0 =     0
      - bus   nothing  < differ
-     2 pulse sign             0  SB     0     0     484       0  -                 0 to 2     < differ
+     2 pulse sign             0  SB       0     0     484       0  -                 0 to 2     < differ
      2 pulse end              0  at 2
 the speeds differ after 0 calls
 the lists are not the same up to blocks and the order of neighbouring texts; the speeds were equal

@@ -14,6 +14,3 @@ mod words;
 pub use entry::{Entry, Wrong};
 pub use list::read_list;
 pub use listed::{ListFault, Listed};
-
-#[cfg(test)]
-mod tests;

@@ -14,6 +14,3 @@ pub use compare::Likeness;
 pub use counts::Counts;
 pub use run::Run;
 pub use verdict::{Verdict, compare_runs};
-
-#[cfg(test)]
-mod tests;

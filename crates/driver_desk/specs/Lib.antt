@@ -4,4 +4,3 @@ pub mod Requests
 pub mod Needing
 pub mod Records
 pub mod Words
-pub mod Turns

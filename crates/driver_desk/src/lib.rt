@@ -5,8 +5,6 @@ mod answer;
 mod level;
 mod refusal;
 mod request;
-#[cfg(test)]
-mod tests;
 mod train_record;
 
 pub use answer::Answer;

@@ -2,7 +2,8 @@ ghost use Rattle.std.specs.Prelude.{◌≡◌, Some};
 ghost use Rattle.driver_desk.specs.Numbers.{class_number};
 ghost use Rattle.driver_desk.specs.Requests.{before as before_other, same_turn};
 ghost use Rattle.driver_desk.specs.Words.{request_words};
-ghost use Rattle.driver_desk.specs.Turns.{one_of_three, before-carries};
+ghost use Rattle.std.proofs.Common.{arith};
+ghost use Rattle.std.proofs.lemmas.Bool.Decides.{nat_tests};
 
 use ordering::order::Ordered;
 use std::fmt;
@@ -44,9 +45,9 @@ impl Ordered for Request {
 
     ghost same = { same_turn };
 
-    ghost one = { one_of_three };
+    ghost one = { λ a b. Prim.grind (arith, nat_tests) };
 
-    ghost carries = { before-carries };
+    ghost carries = { λ a b c e f. Prim.grind (arith, nat_tests) };
 
     fn is_before(&self, other: &Request) -> bool {
         (self.raised, self.class, self.number) < (other.raised, other.class, other.number)

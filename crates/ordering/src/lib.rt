@@ -3,5 +3,3 @@
 
 pub mod order;
 pub mod shelf;
-#[cfg(test)]
-mod tests;

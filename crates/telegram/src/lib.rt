@@ -8,8 +8,6 @@ mod kinds;
 mod modes;
 mod orders;
 mod reader;
-#[cfg(test)]
-mod tests;
 mod whole;
 
 pub use examples::halt_telegram;

@@ -10,6 +10,3 @@ pub use brake_line::BrakeLine;
 pub use bus::BusEnd;
 pub use end::TrainEnd;
 pub use pulse::PulseEnd;
-
-#[cfg(test)]
-mod tests;

@@ -10,8 +10,6 @@ use ordering::shelf::Shelf;
 pub mod line;
 mod methods;
 pub mod refusal;
-#[cfg(test)]
-mod tests;
 
 // The lines stand front to back, the newest added in front. No number is there twice. No model, since clauses name the lent run beside the lines.
 #[derive(Drop)]

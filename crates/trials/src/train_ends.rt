@@ -1,4 +1,4 @@
-use crate::{BrakeLine, BusEnd, PulseEnd, TrainEnd};
+use train_end::{BrakeLine, BusEnd, PulseEnd, TrainEnd};
 use std::test::Fail;
 
 // The speed of an end after one block.

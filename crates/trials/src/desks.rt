@@ -1,4 +1,4 @@
-use super::*;
+use driver_desk::{Class, Draft, Level, Refusal, Request, TrainRecord};
 use ordering::order::Ordered;
 use std::test::Fail;
 

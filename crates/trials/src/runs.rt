@@ -1,7 +1,7 @@
 ghost use Rattle.std.specs.Prelude.{if◌then◌else◌, Some, None};
 ghost use Rattle.std.proofs.Common.{rules};
 
-use crate::{Cabs, run_lent};
+use bench::{Cabs, run_lent};
 use cab_unit::Call;
 use driver_desk::{Answer, Level, TrainRecord};
 use std::process::Abort;

@@ -1,8 +1,8 @@
 ghost use Rattle.std.specs.Prelude.{◌==◌, nat_lt};
 ghost use Rattle.std.proofs.Common.{rules};
 
-use crate::order::{Ordered, first_of};
-use crate::shelf::{Shelf, ShelfRefusal};
+use ordering::order::{Ordered, first_of};
+use ordering::shelf::{Shelf, ShelfRefusal};
 
 // The lower level is before; two marks of one level are the same, whatever their names.
 #[derive(Clone, Copy, PartialEq, Eq, Debug)]

@@ -1,8 +1,8 @@
-use crate::Window;
-use crate::line::Line;
-use crate::refusal::Refusal;
 use ordering::shelf::ShelfRefusal;
 use std::test::Fail;
+use window::Window;
+use window::line::Line;
+use window::refusal::Refusal;
 
 fn line(cycle: u32, number: u8, place: usize, length: usize) -> Line {
     Line {

@@ -1,5 +1,5 @@
-use crate::{Run, compare_runs, same_asked};
 use cab_unit::Call;
+use compare::{Run, compare_runs, same_asked};
 use driver_desk::{Answer, Level, Refusal};
 use std::test::Fail;
 use telegram::{Mode, Order};

@@ -1,4 +1,4 @@
-use crate::{Entry, ListFault, Wrong, read_list};
+use call_list::{Entry, ListFault, Wrong, read_list};
 use std::alloc::Global;
 use std::test::Fail;
 use telegram::Order;

@@ -1,4 +1,4 @@
-use super::*;
+use telegram::{Fault, Mode, Order, Placed, Reader, Refused, halt_telegram, read_all};
 use std::process::Abort;
 use std::test::Fail;
 

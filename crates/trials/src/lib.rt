@@ -1,0 +1,21 @@
+// Tests of the crates below through their public calls. A crate with tests of its own is proved twice, so only what needs a crate's private parts is tested there.
+#![tactic(auto)]
+
+#[cfg(test)]
+mod call_lists;
+#[cfg(test)]
+mod comparisons;
+#[cfg(test)]
+mod desks;
+#[cfg(test)]
+mod orderings;
+#[cfg(test)]
+mod runs;
+#[cfg(test)]
+mod telegrams;
+#[cfg(test)]
+mod train_ends;
+#[cfg(test)]
+mod units;
+#[cfg(test)]
+mod windows;
