@@ -35,7 +35,7 @@ def files(commit):
     else:
         names = [str(p) for p in sorted(Path("crates").rglob("*.rt"))]
         read = lambda n: Path(n).read_text()
-    return {n: read(n) for n in names if re.match(r"crates/\w+/src/.*\.rt$", n) and not re.search(r"tests\.rt$", n)}
+    return {n: read(n) for n in names if re.match(r"crates/\w+/src/.*\.rt$", n) and not re.search(r"tests\.rt$|^crates/trials/", n)}
 
 
 def functions(text):

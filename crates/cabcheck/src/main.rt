@@ -1,6 +1,9 @@
 // The program: runs a call list through a bus cab and a pulse cab, and lays their answers side by side.
 #![tactic(auto)]
 
+ghost use Rattle.std.specs.Prelude.{◌≡◌, if◌then◌else◌, MatchResult};
+ghost use Rattle.std.specs.Process.{exit_status};
+
 mod failure;
 mod input;
 mod messages;
@@ -37,23 +40,27 @@ The status is 1 where answers differ or one cab has more calls, for a bad
 option or a bad line, and where a list cannot be read or output not written.
 ";
 
+// Does what is asked, and answers whether all is well: answers that differ are not.
 fn answer_asked<'a>(
     rt: &HostRuntime,
     asked: &'a anyhow::Result<Asked>,
-) -> Result<ExitCode, Failure<'a>> {
+) -> Result<bool, Failure<'a>> {
     match asked {
         Ok(Asked::Help) => rt.print(HELP)?,
         Ok(Asked::Version) => rt.println("cabcheck 0.2.0")?,
         Ok(Asked::Run(options)) => return run_options(rt, options),
         Err(error) => return Err(Failure::Options(error)),
     }
-    Ok(ExitCode::SUCCESS)
+    Ok(true)
 }
 
-fn main(rt: HostRuntime) -> ExitCode {
-    let asked = read_options(&rt);
-    match answer_asked(&rt, &asked) {
-        Ok(status) => status,
+// The status that the program ends with. A failure is said on standard error first, but for a closed output.
+fn ending(rt: &HostRuntime, outcome: Result<bool, Failure<'_>>) -> ExitCode
+    ensures { MatchResult outcome.entry (λ well. exit_status result ≡ (if well then 0 else 1)) (λ _. exit_status result ≡ 1) }
+{
+    match outcome {
+        Ok(true) => ExitCode::SUCCESS,
+        Ok(false) => ExitCode::FAILURE,
         Err(failure) => {
             if !failure.is_closed_output() {
                 let _ = eprintln!(rt; "{failure}");
@@ -61,4 +68,10 @@ fn main(rt: HostRuntime) -> ExitCode {
             ExitCode::FAILURE
         }
     }
+}
+
+fn main(rt: HostRuntime) -> ExitCode {
+    let asked = read_options(&rt);
+    let outcome = answer_asked(&rt, &asked);
+    ending(&rt, outcome)
 }

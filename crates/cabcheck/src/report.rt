@@ -39,13 +39,7 @@ pub fn report_runs<W: Write + Drop>(
     let _pulse_end = other.switch_off();
     let bus = Side::new(BusEnd::new(), &bus, &answers);
     let pulse = Side::new(PulseEnd::new(), &pulse, &other_answers);
-    let verdict = compare_runs(
-        heap,
-        &mut BusEnd::new(),
-        bus.run(),
-        &mut PulseEnd::new(),
-        pulse.run(),
-    )?;
+    let verdict = compare_runs(heap, BusEnd::new(), bus.run(), PulseEnd::new(), pulse.run())?;
     if tsv {
         print_tsv(out, Cab::Bus, &bus)?;
         print_tsv(out, Cab::Pulse, &pulse)?;

@@ -4,7 +4,6 @@ use crate::options::Options;
 use crate::report::report_runs;
 use call_list::{Listed, read_list};
 use std::io::{BufWriter, Write};
-use std::process::ExitCode;
 
 // The calls of a list.
 fn load<'n>(rt: &HostRuntime, name: &'n str) -> Result<Vec<Listed>, Failure<'n>> {
@@ -12,8 +11,8 @@ fn load<'n>(rt: &HostRuntime, name: &'n str) -> Result<Vec<Listed>, Failure<'n>>
     read_list(rt.alloc(), &text).map_err(|fault| Failure::of_list(name, fault))
 }
 
-// Runs the lists in both cabs and prints what came of it; the status tells whether the answers agree.
-pub fn run_options<'o>(rt: &HostRuntime, options: &'o Options) -> Result<ExitCode, Failure<'o>> {
+// Runs the lists in both cabs and prints what came of it; answers whether the answers agree.
+pub fn run_options<'o>(rt: &HostRuntime, options: &'o Options) -> Result<bool, Failure<'o>> {
     let heap = rt.alloc();
     let listed = load(rt, options.list.as_deref().unwrap_or("-"))?;
     let second = options
@@ -24,9 +23,5 @@ pub fn run_options<'o>(rt: &HostRuntime, options: &'o Options) -> Result<ExitCod
     let mut out = BufWriter::new(heap, rt.stdout())?;
     let agree = report_runs(&mut out, heap, options.tsv, &listed, second.as_deref())?;
     out.flush()?;
-    if agree {
-        Ok(ExitCode::SUCCESS)
-    } else {
-        Ok(ExitCode::FAILURE)
-    }
+    Ok(agree)
 }

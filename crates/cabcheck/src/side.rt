@@ -48,9 +48,9 @@ impl<'p, 'c> Side<'p, 'c> {
 // A call of the unit with its answer; an order of a telegram as it was read there.
 #[derive(Clone, Copy)]
 pub struct Answered<'c> {
-    pub call: Call<'c>,
+    pub call: &'c Call<'c>,
     pub placed: Option<Placed<'c>>,
-    pub answer: Answer,
+    pub answer: &'c Answer,
 }
 
 // The rows of one cab in their order: each that tells of a call takes the next call and its answer.
@@ -69,9 +69,9 @@ impl<'p> Iterator for Rows<'p> {
         let Row { line, told } = *self.planned.split_off_first()?;
         let told = match told {
             Told::Call(placed) => Told::Call(Answered {
-                call: *self.run.calls.split_off_first()?,
+                call: self.run.calls.split_off_first()?,
                 placed,
-                answer: *self.run.answers.split_off_first()?,
+                answer: self.run.answers.split_off_first()?,
             }),
             Told::Note(note) => Told::Note(note),
         };

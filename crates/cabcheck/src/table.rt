@@ -31,13 +31,13 @@ impl Column<'_> {
             (
                 Told::Call(
                     Answered {
-                        call: Call::Cycle(bus),
+                        call: &Call::Cycle(bus),
                         ..
                     },
                 ),
                 Told::Call(
                     Answered {
-                        call: Call::Cycle(pulse),
+                        call: &Call::Cycle(pulse),
                         ..
                     },
                 ),
@@ -112,7 +112,7 @@ impl fmt::Display for NoteWords {
 fn same_told(told: &Told<Answered<'_>>, other: &Told<Answered<'_>>) -> bool {
     match (*told, *other) {
         (Told::Call(one), Told::Call(other)) => {
-            same_asked(&one.call, &other.call) && one.answer == other.answer
+            same_asked(one.call, other.call) && one.answer == other.answer
         }
         (Told::Note(note), Told::Note(other)) => note == other,
         _ => false,
@@ -194,7 +194,7 @@ impl<W: Write> Table<'_, W> {
                 let call = CallWords(answered.call);
                 let call = format!(in self.heap; "{call}")?;
                 let column = answered.placed.map_or(column, Column::Placed);
-                self.print_answer(line, cab, call.as_str(), column, &answered.answer)
+                self.print_answer(line, cab, call.as_str(), column, answered.answer)
             }
             Told::Note(note) => {
                 let name = note.name();
@@ -245,7 +245,7 @@ impl<W: Write> Table<'_, W> {
             },
         ) = row
         {
-            messages.show_call(&call, &answer)?;
+            messages.show_call(call, answer)?;
             in_another_order = reordered.next().copied().unwrap_or(false);
         }
         self.print_pair(pair, in_another_order, Message(messages.top_words()))

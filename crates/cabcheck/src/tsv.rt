@@ -10,13 +10,13 @@ use std::{fmt, io};
 
 // An answer in its columns.
 #[derive(Clone, Copy)]
-struct AnswerColumns(Answer);
+struct AnswerColumns<'a>(&'a Answer);
 
-impl fmt::Display for AnswerColumns {
-    ghost output = { λ w. Some (answer_columns w.0) };
+impl fmt::Display for AnswerColumns<'_> {
+    ghost output = { λ w. Some (answer_columns w.0.now) };
 
     fn fmt<W: fmt::Write>(&self, f: &mut fmt::Formatter<W>) -> fmt::Result {
-        let answer = &self.0;
+        let answer = self.0;
         let outcome = outcome_number(answer.outcome);
         let mode = answer.mode.name();
         let level = answer.level.number();
@@ -56,7 +56,7 @@ impl fmt::Display for NoteColumns {
 // All rows of one cab, that after switching on first.
 pub fn print_tsv<W: Write>(out: &mut W, cab: Cab, side: &Side<'_, '_>) -> io::Result<()> {
     let name = cab.name();
-    let on = AnswerColumns(side.on);
+    let on = AnswerColumns(&side.on);
     writeln!(out, "0\t{name}\ton\t{on}")?;
     for Row { line, told } in side.rows() {
         match told {

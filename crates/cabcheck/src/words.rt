@@ -10,13 +10,13 @@ use telegram::Order;
 
 // A call in the words of a call list.
 #[derive(Clone, Copy)]
-pub struct CallWords<'a>(pub Call<'a>);
+pub struct CallWords<'a>(pub &'a Call<'a>);
 
 impl fmt::Display for CallWords<'_> {
-    ghost output = { λ w. Some (call_words (said w.0)) };
+    ghost output = { λ w. Some (call_words (said w.0.now)) };
 
     fn fmt<W: fmt::Write>(&self, f: &mut fmt::Formatter<W>) -> fmt::Result {
-        match self.0 {
+        match *self.0 {
             Call::Cycle(_) => f.write_str("cycle"),
             Call::Press(button) => write!(f, "press {button}"),
             Call::Take(_) => f.write_str("take"),

@@ -19,22 +19,22 @@ pub struct Verdict {
     pub counts: Counts,
 }
 
-// Compares two runs, on ends as they were when switched on.
-pub fn compare_runs<E: TrainEnd, F: TrainEnd>(
+// Compares two runs, on ends as they were when switched on. The ends hear the blocks once more and are let go.
+pub fn compare_runs<E: TrainEnd + Drop, F: TrainEnd + Drop>(
     heap: Global,
-    one: &mut E,
+    mut one: E,
     run: Run<'_>,
-    other: &mut F,
+    mut other: F,
     other_run: Run<'_>,
 ) -> Result<Verdict, AllocError>
     ensures likeness { IfOk result (λ v. Compared v.likeness.alike v.likeness.reordered.items (asked run.entry) run.entry.answers.now (asked other_run.entry) other_run.entry.answers.now) }
-    ensures speeds { IfOk result (λ v. v.unequal ≡ unequal_speeds (told E.reading (E.speed_of one.old) (asked run.entry) run.entry.answers.now) (told F.reading (F.speed_of other.old) (asked other_run.entry) other_run.entry.answers.now)) }
+    ensures speeds { IfOk result (λ v. v.unequal ≡ unequal_speeds (told E.reading (E.speed_of one) (asked run.entry) run.entry.answers.now) (told F.reading (F.speed_of other) (asked other_run.entry) other_run.entry.answers.now)) }
     ensures counts { IfOk result (λ v. Counted v.likeness.reordered.items run.entry.answers.now other_run.entry.answers.now v.counts.compared v.counts.differing) }
-    ensures law { IfOk result (λ v. (v.likeness.alike ≡ true → v.unequal ≡ 0 → RunsAlike E.reading (E.speed_of one.old) (asked run.entry) run.entry.answers.now F.reading (F.speed_of other.old) (asked other_run.entry) other_run.entry.answers.now v.counts.differing)) }
+    ensures law { IfOk result (λ v. (v.likeness.alike ≡ true → v.unequal ≡ 0 → RunsAlike E.reading (E.speed_of one) (asked run.entry) run.entry.answers.now F.reading (F.speed_of other) (asked other_run.entry) other_run.entry.answers.now v.counts.differing)) }
     ensures memory { IfErr result (λ _. 0 < shortest (asked run.entry) run.entry.answers.now (asked other_run.entry) other_run.entry.answers.now) }
 {
     let likeness = compare_lists(heap, run, other_run)?;
-    let unequal = unequal_speeds(one, run, other, other_run);
+    let unequal = unequal_speeds(&mut one, run, &mut other, other_run);
     let counts = count_answers(run.answers, other_run.answers, &likeness.reordered);
     Ok(Verdict {
         likeness,

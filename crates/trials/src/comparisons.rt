@@ -242,13 +242,7 @@ fn runs_compared(rt: HostRuntime) -> Result<(), Fail> {
             differing: 0,
         },
     ] {
-        let verdict = compare_runs(
-            heap,
-            &mut BusEnd::new(),
-            found.run,
-            &mut PulseEnd::new(),
-            found.other,
-        )?;
+        let verdict = compare_runs(heap, BusEnd::new(), found.run, PulseEnd::new(), found.other)?;
         assert_eq!(rt; verdict.likeness.alike, found.alike);
         assert_eq!(rt; verdict.likeness.reordered.as_slice(), found.marks);
         assert_eq!(rt; verdict.unequal, found.unequal);

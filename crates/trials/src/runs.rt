@@ -1,6 +1,7 @@
 ghost use Rattle.std.specs.Prelude.{if◌then◌else◌, Some, None};
 ghost use Rattle.std.proofs.Common.{rules};
 
+use crate::units::outcome;
 use bench::{Cabs, run_lent};
 use cab_unit::Call;
 use driver_desk::{Answer, Level, TrainRecord};
@@ -57,12 +58,8 @@ const BLANK: Answer = Answer {
 
 // Outcome, mode, line, enabled buttons and number waiting.
 fn shown(answer: &Answer) -> (u8, &'static str, u8, u16, u8) {
-    let outcome = match answer.outcome {
-        Some(refusal) => refusal.number(),
-        None => 0,
-    };
     (
-        outcome,
+        outcome(answer),
         answer.mode.name(),
         answer.line.number(),
         answer.buttons,

@@ -1,6 +1,6 @@
-use telegram::{Fault, Mode, Order, Placed, Reader, Refused, halt_telegram, read_all};
 use std::process::Abort;
 use std::test::Fail;
+use telegram::{Fault, Mode, Order, Placed, Reader, Refused, halt_telegram, read_all};
 
 // The next answer in short: 0 and the byte after an order, or how the telegram ends.
 fn outcome(reader: &mut Reader<'_>) -> (u8, usize) {

@@ -1,5 +1,5 @@
-use train_end::{BrakeLine, BusEnd, PulseEnd, TrainEnd};
 use std::test::Fail;
+use train_end::{BrakeLine, BusEnd, PulseEnd, TrainEnd};
 
 // The speed of an end after one block.
 fn after<E: TrainEnd + Drop>(mut end: E, block: &[u8]) -> Option<u16> {

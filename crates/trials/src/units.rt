@@ -3,7 +3,7 @@ use std::test::Fail;
 use train_end::BusEnd;
 
 // 0, or the number of the refusal.
-fn outcome(answer: &Answer) -> u8 {
+pub fn outcome(answer: &Answer) -> u8 {
     match answer.outcome {
         Some(refusal) => refusal.number(),
         None => 0,

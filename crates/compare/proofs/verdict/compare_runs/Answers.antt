@@ -9,5 +9,5 @@ returns-clause-counts g c =
 
 pub returns-clause-law : goal.returns-clause-law
 returns-clause-law g c a z =
-    let j = c.in_ok-likeness.ensures.law a g.E.TrainEnd.reading g.F.TrainEnd.reading (g.E.TrainEnd.speed_of c.args.one.now) (g.F.TrainEnd.speed_of c.args.other.now) (search (rules, z)) in
+    let j = c.in_ok-likeness.ensures.law a g.E.TrainEnd.reading g.F.TrainEnd.reading (g.E.TrainEnd.speed_of c.args.one) (g.F.TrainEnd.speed_of c.args.other) (search (rules, z)) in
     (j.0, λ k. c.count_answers-counts.ensures.agreeing (subst (λ (ms : List Bool). AgreeOutside ms c.args.run.answers.now c.args.other_run.answers.now) (sym c.deref.ensures.value) (j.1 k)))
