@@ -16,7 +16,6 @@ mod table;
 #[cfg(test)]
 mod tests;
 mod tsv;
-mod words;
 
 use failure::Failure;
 use options::{Asked, read_options};

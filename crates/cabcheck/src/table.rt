@@ -1,8 +1,8 @@
 use crate::messages::{FREE, Messages, ROWS};
-use crate::plan::{Cab, Note, Row, Told};
+use crate::plan::{Cab, Row, Told};
 use crate::side::{Answered, Side};
-use crate::words::{CallWords, RequestWords, outcome_number};
 use cab_unit::Call;
+use columns::{CallWords, Note, RequestWords, outcome_number};
 use compare::{Likeness, same_asked};
 use driver_desk::Answer;
 use itertools::{EitherOrBoth, Itertools};

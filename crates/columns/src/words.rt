@@ -1,7 +1,7 @@
 ghost use Rattle.std.specs.Prelude.{◌≡◌, Some};
 ghost use Rattle.driver_desk.specs.Numbers.{outcome_number};
 ghost use Rattle.cab_unit.specs.Events.{said};
-ghost use Rattle.cabcheck.specs.Words.{call_words, request_column};
+ghost use Rattle.columns.specs.Words.{call_words, request_column};
 
 use cab_unit::Call;
 use driver_desk::{Refusal, Request};

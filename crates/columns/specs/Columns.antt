@@ -4,10 +4,10 @@ use Rattle.train_end.specs.Line.{line_number}
 use Rattle.telegram.specs.Modes.{mode_name}
 use Rattle.driver_desk.specs.Numbers.{level_number, outcome_number}
 use Rattle.driver_desk.specs.declared.answer.Answer.{Answer}
-use Rattle.cabcheck.specs.Notes.{note_number}
-use Rattle.cabcheck.specs.Words.{request_column}
-use Rattle.cabcheck.specs.declared.plan.Note.{Note}
-use Rattle.cabcheck.specs.declared.plan.Note.TheVariants.{Draft, Reading}
+use Rattle.columns.specs.Notes.{note_number}
+use Rattle.columns.specs.Words.{request_column}
+use Rattle.columns.specs.declared.note.Note.{Note}
+use Rattle.columns.specs.declared.note.Note.TheVariants.{Draft, Reading}
 
 -- columns with a tab between two
 abbrev pub tabbed : List ℕ → List (List ℕ) → List ℕ

@@ -2,8 +2,8 @@
 use Rattle.std.specs.Prelude.{ℕ, List, Ok, Err, codes}
 use Rattle.telegram.specs.Faults.{fault_number}
 use Rattle.driver_desk.specs.Numbers.{refusal_number}
-use Rattle.cabcheck.specs.declared.plan.Note.{Note}
-use Rattle.cabcheck.specs.declared.plan.Note.TheVariants.{Draft, Reading}
+use Rattle.columns.specs.declared.note.Note.{Note}
+use Rattle.columns.specs.declared.note.Note.TheVariants.{Draft, Reading}
 
 abbrev pub note_name : Note → List ℕ
 note_name (Draft refusal) = codes "draft"
