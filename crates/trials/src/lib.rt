@@ -10,6 +10,8 @@ mod desks;
 #[cfg(test)]
 mod orderings;
 #[cfg(test)]
+mod rows;
+#[cfg(test)]
 mod runs;
 #[cfg(test)]
 mod telegrams;

@@ -1,0 +1,109 @@
+use cab_unit::Call;
+use columns::{AnswerColumns, CallWords, Note, NoteColumns};
+use driver_desk::{Answer, Class, Level, Refusal, Request, TrainRecord};
+use std::test::Fail;
+use telegram::{Fault, Mode, Order, Refused};
+use train_end::BrakeLine;
+
+const TRAIN: TrainRecord = TrainRecord {
+    driver: 12345678,
+    length: 400,
+    percentage: 120,
+    speed: 160,
+};
+
+#[test]
+fn calls_are_told(rt: HostRuntime) -> Result<(), Fail> {
+    let wanted = Order::Text {
+        number: 7,
+        wanted: true,
+        text: b"Halt",
+    };
+    let shown = Order::Text {
+        number: 255,
+        wanted: false,
+        text: b"",
+    };
+    for (call, words) in [
+        (Call::Cycle(&[0x80, 0x00]), "cycle"),
+        (Call::Press(10), "press 10"),
+        (Call::Take(TRAIN), "take"),
+        (Call::Order(Order::Authority(Mode::OnSight)), "authority OS"),
+        (Call::Order(Order::Level(3)), "level 3"),
+        (Call::Order(wanted), "text 7 wanted"),
+        (Call::Order(shown), "text 255 shown"),
+        (Call::Order(Order::TextWithdrawal(4)), "withdraw 4"),
+        (Call::Order(Order::EmergencyStop), "stop"),
+        (Call::Order(Order::Permission), "permission"),
+        (Call::Order(Order::Sign), "sign"),
+    ] {
+        let told = CallWords(&call);
+        assert_eq!(rt; format!(in rt.alloc(); "{told}")?.as_str(), words);
+    }
+    Ok(())
+}
+
+#[test]
+fn an_answer_is_told(rt: HostRuntime) -> Result<(), Fail> {
+    let answer = Answer {
+        outcome: Some(Refusal::NotHeard),
+        mode: Mode::Trip,
+        level: Level::One,
+        line: BrakeLine::Emergency,
+        buttons: 257,
+        waiting: 3,
+        first: Some(Request {
+            class: Class::Text,
+            number: 4,
+            raised: 1,
+            timed: true,
+        }),
+        raised: None,
+        acknowledged: Some(Request {
+            class: Class::Hold,
+            number: 0,
+            raised: 5,
+            timed: false,
+        }),
+        withdrawn: 6,
+    };
+    let told = AnswerColumns(&answer);
+    assert_eq!(rt;
+        format!(in rt.alloc(); "{told}")?.as_str(),
+        "30\tTR\t1\t2\t257\t3\t4:4@1t\t-\t3:0@5u\t6"
+    );
+    Ok(())
+}
+
+#[test]
+fn notes_are_told(rt: HostRuntime) -> Result<(), Fail> {
+    let refused = Refused {
+        fault: Fault::OutsideList,
+        first: 6,
+    };
+    for (note, name, number, columns) in [
+        (
+            Note::Draft(Refusal::BrakePercentage),
+            "draft",
+            12,
+            "12\t-\t-\t-\t-\t-\t-\t-\t-\t-",
+        ),
+        (
+            Note::Reading(Err(refused)),
+            "fault",
+            23,
+            "23\t6\t-\t-\t-\t-\t-\t-\t-\t-",
+        ),
+        (
+            Note::Reading(Ok(11)),
+            "end",
+            0,
+            "0\t11\t-\t-\t-\t-\t-\t-\t-\t-",
+        ),
+    ] {
+        assert_eq!(rt; (note.name(), note.number()), (name, number));
+        let told = NoteColumns(note);
+        assert_eq!(rt; format!(in rt.alloc(); "{told}")?.as_str(), columns);
+    }
+    Ok(())
+}
