@@ -4,7 +4,7 @@ ghost use Rattle.bench.specs.LastCycle.{LastRows};
 ghost use Rattle.bench.specs.Rows.{HeardRows, ButtonRows, RefusalRows, FirstRefusals, BookRows, EntryRows};
 
 // The edges hold of the definitions.
-pub fn edges_stand() -> u8
+pub fn edges_stand()
     ensures edges { Edges }
     ensures reached { ReachedEdges }
     ensures more { MoreEdges }
@@ -18,6 +18,4 @@ pub fn edges_stand() -> u8
     ensures last { LastRows }
     ensures book { BookRows }
     ensures entries { EntryRows }
-{
-    0
-}
+{}

@@ -3,7 +3,7 @@ ghost use Rattle.bench.specs.Pretences.{NotByTheBook, NotConfirmedOnce, NotEqual
 ghost use Rattle.bench.specs.Readings.{RuledOut};
 
 // The laws over runs hold of the definitions, and so do the readings that are ruled out; and the laws refuse what only pretends.
-pub fn laws_stand() -> u8
+pub fn laws_stand()
     ensures book { BookLaw }
     ensures entries { EntryLaw }
     ensures likeness { LikenessLaw }
@@ -11,6 +11,4 @@ pub fn laws_stand() -> u8
     ensures strays { NotByTheBook }
     ensures unconfirmed { NotConfirmedOnce }
     ensures unequal { NotEqualEnds }
-{
-    0
-}
+{}
