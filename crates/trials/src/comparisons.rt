@@ -210,6 +210,22 @@ fn runs_compared(rt: HostRuntime) -> Result<(), Fail> {
             compared: 3,
             differing: 0,
         },
+        // answers past the marks are compared too
+        Found {
+            run: Run {
+                calls: &[press],
+                answers: &[yes, yes],
+            },
+            other: Run {
+                calls: &[press],
+                answers: &[yes, no],
+            },
+            alike: false,
+            marks: &[false],
+            unequal: 0,
+            compared: 2,
+            differing: 1,
+        },
         // one answer more than calls, and one fewer
         Found {
             run: Run {

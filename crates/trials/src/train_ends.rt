@@ -68,18 +68,6 @@ fn lines<E: TrainEnd + Drop>(mut end: E, line: BrakeLine) -> (u8, u8, Option<u16
 }
 
 #[test]
-fn brake_lines(rt: HostRuntime) {
-    for line in [
-        BrakeLine::Released,
-        BrakeLine::Service,
-        BrakeLine::Emergency,
-    ] {
-        assert_eq!(rt; lines(BusEnd::new(), line), (2, line.number(), None));
-        assert_eq!(rt; lines(PulseEnd::new(), line), (2, line.number(), None));
-    }
-}
-
-#[test]
 fn brake_lines_by_their_numbers(rt: HostRuntime) {
     for (line, number) in [
         (BrakeLine::Released, 0),

@@ -89,19 +89,6 @@ fn refusals_of_the_shelf(rt: HostRuntime) {
 }
 
 #[test]
-fn numbers(rt: HostRuntime) {
-    let all = [
-        Refusal::NoFreeLine,
-        Refusal::NumberThere,
-        Refusal::NoSuchLine,
-        Refusal::OutsideStore,
-    ];
-    for (i, refusal) in all.iter().enumerate() {
-        assert_eq!(rt; refusal.number() as usize, 50 + i);
-    }
-}
-
-#[test]
 fn numbers_and_texts(rt: HostRuntime) -> Result<(), Fail> {
     for (refusal, number, text) in [
         (Refusal::NoFreeLine, 50, "No line is free."),
