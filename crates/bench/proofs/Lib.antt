@@ -13,3 +13,4 @@ pub mod Likely
 pub mod Running
 pub mod Both
 pub mod Pretended
+pub mod Asking

@@ -9,5 +9,6 @@ pub mod Rows
 pub mod Calls
 pub mod LastCycle
 pub mod Readings
+pub mod Asking
 pub mod View
 pub mod Both

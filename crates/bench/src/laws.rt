@@ -1,3 +1,4 @@
+ghost use Rattle.bench.specs.Asking.{TextsAsk};
 ghost use Rattle.bench.specs.Laws.{BookLaw, EntryLaw, LikenessLaw};
 ghost use Rattle.bench.specs.Pretences.{NotByTheBook, NotConfirmedOnce, NotEqualEnds};
 ghost use Rattle.bench.specs.Readings.{RuledOut};
@@ -8,6 +9,7 @@ pub fn laws_stand()
     ensures entries { EntryLaw }
     ensures likeness { LikenessLaw }
     ensures readings { RuledOut }
+    ensures texts { TextsAsk }
     ensures strays { NotByTheBook }
     ensures unconfirmed { NotConfirmedOnce }
     ensures unequal { NotEqualEnds }
