@@ -13,8 +13,6 @@ mod report;
 mod run;
 mod side;
 mod table;
-#[cfg(test)]
-mod tests;
 mod tsv;
 
 use failure::Failure;

@@ -39,15 +39,27 @@ pub fn report_runs<W: Write + Drop>(
     let _pulse_end = other.switch_off();
     let bus = Side::new(BusEnd::new(), &bus, &answers);
     let pulse = Side::new(PulseEnd::new(), &pulse, &other_answers);
+    print_sides(out, heap, tsv, second.is_some(), &bus, &pulse)
+}
+
+// Prints what was answered in both cabs, as rows or as the table with its last lines. Answers as above.
+fn print_sides<W: Write + Drop>(
+    out: &mut W,
+    heap: Global,
+    tsv: bool,
+    two_lists: bool,
+    bus: &Side<'_, '_>,
+    pulse: &Side<'_, '_>,
+) -> Result<bool, Failure<'static>> {
     let verdict = compare_runs(heap, BusEnd::new(), bus.run(), PulseEnd::new(), pulse.run())?;
     if tsv {
-        print_tsv(out, Cab::Bus, &bus)?;
-        print_tsv(out, Cab::Pulse, &pulse)?;
+        print_tsv(out, Cab::Bus, bus)?;
+        print_tsv(out, Cab::Pulse, pulse)?;
     } else {
-        print_table(out, heap, &bus, &pulse, &verdict.likeness)?;
-        print_verdict(out, second.is_some(), &bus, &pulse, &verdict)?;
+        print_table(out, heap, bus, pulse, &verdict.likeness)?;
+        print_verdict(out, two_lists, bus, pulse, &verdict)?;
     }
-    Ok(verdict.counts.differing == 0 && answers.len() == other_answers.len())
+    Ok(verdict.counts.differing == 0 && bus.answers.len() == pulse.answers.len())
 }
 
 // How far the two runs agree. Of two lists also whether what is promised of alike runs applies here.

@@ -14,7 +14,7 @@ fn bad_line(heap: Global, text: &str) -> Option<(usize, Wrong)> {
 #[test]
 fn bad_lines(rt: HostRuntime) {
     let heap = rt.alloc();
-    for (text, line, wrong) in [
+    for &(text, line, wrong) in &[
         ("cycle 8000", 1, Wrong::MissingWord),
         (
             "\n# a comment\n  cycle 8000 00000000 x\n",
@@ -52,7 +52,7 @@ fn bad_lines(rt: HostRuntime) {
 
 #[test]
 fn what_is_wrong_in_words(rt: HostRuntime) -> Result<(), Fail> {
-    for (wrong, text) in [
+    for &(wrong, text) in &[
         (Wrong::UnknownCall, "no such call"),
         (Wrong::MissingWord, "a word is missing"),
         (Wrong::ExtraWord, "there are words after the call's last"),
@@ -116,7 +116,7 @@ fn first_numbers(heap: Global, text: &str) -> Option<[u32; 5]> {
 #[test]
 fn calls_in_numbers(rt: HostRuntime) {
     let heap = rt.alloc();
-    for (text, found) in [
+    for &(text, found) in &[
         ("press 010", [1, 10, 0, 0, 0]),
         ("press 000000000010", [1, 10, 0, 0, 0]),
         ("press 255", [1, 255, 0, 0, 0]),
@@ -143,7 +143,7 @@ fn calls_in_numbers(rt: HostRuntime) {
 
 #[test]
 fn good_lines(rt: HostRuntime) -> Result<(), Fail> {
-    for (text, lines) in [
+    for &(text, lines) in &[
         ("# a morning\n\n\tcycle 80Ff -\r\ntelegram 6002", (3, 4)),
         (
             "# a morning\n  #in May\n \r\n\tcycle 80Ff -\r\ntelegram  6002 ",

@@ -1,6 +1,7 @@
 use cab_unit::Call;
-use compare::{Run, compare_runs, same_asked};
+use compare::{Run, Verdict, compare_runs, same_asked};
 use driver_desk::{Answer, Level, Refusal};
+use std::alloc::{AllocError, Global};
 use std::test::Fail;
 use telegram::{Mode, Order};
 use train_end::{BrakeLine, BusEnd, PulseEnd};
@@ -30,7 +31,7 @@ fn text(number: u8, text: &[u8]) -> Call<'_> {
 
 #[test]
 fn calls_asked(rt: HostRuntime) {
-    for (call, other, same) in [
+    for &(call, other, same) in &[
         (Call::Cycle(&[0x80, 0]), Call::Cycle(&[]), true),
         (Call::Cycle(&[]), Call::Press(1), false),
         (Call::Press(1), Call::Press(1), true),
@@ -43,227 +44,141 @@ fn calls_asked(rt: HostRuntime) {
     }
 }
 
-// Two runs, and what is found of them.
-#[derive(Drop)]
-struct Found<'a> {
-    run: Run<'a>,
-    other: Run<'a>,
-    alike: bool,
-    marks: &'a [bool],
-    unequal: usize,
-    compared: usize,
-    differing: usize,
+// A call for each letter: a cycle at 5 km/h or standing, the text 1 or 2, and else a press.
+fn call_of(letter: char) -> Call<'static> {
+    match letter {
+        '5' => Call::Cycle(&[0x80, 5]),
+        '0' => Call::Cycle(&[0, 0, 0, 0]),
+        '1' => text(1, b""),
+        '2' => text(2, b""),
+        _ => Call::Press(1),
+    }
 }
 
+// An answer for each letter: accepted, in System Failure, and else refused.
+fn answer_of(letter: char) -> Answer {
+    match letter {
+        'y' => answer(None, Mode::Standby),
+        'f' => answer(None, Mode::SystemFailure),
+        _ => answer(Some(Refusal::TextWaits), Mode::Standby),
+    }
+}
+
+fn calls_of(heap: Global, letters: &str) -> Result<Vec<Call<'static>>, AllocError> {
+    let mut calls = Vec::new(heap);
+    for letter in letters.chars() {
+        calls.push(call_of(letter))?;
+    }
+    Ok(calls)
+}
+
+fn answers_of(heap: Global, letters: &str) -> Result<Vec<Answer>, AllocError> {
+    let mut answers = Vec::new(heap);
+    for letter in letters.chars() {
+        answers.push(answer_of(letter))?;
+    }
+    Ok(answers)
+}
+
+// What is found of two runs, each told by its calls and its answers.
+fn compared(heap: Global, run: (&str, &str), other: (&str, &str)) -> Result<Verdict, AllocError> {
+    let calls = calls_of(heap, run.0)?;
+    let answers = answers_of(heap, run.1)?;
+    let run = Run {
+        calls: &calls,
+        answers: &answers,
+    };
+    let calls = calls_of(heap, other.0)?;
+    let answers = answers_of(heap, other.1)?;
+    let other = Run {
+        calls: &calls,
+        answers: &answers,
+    };
+    compare_runs(heap, BusEnd::new(), run, PulseEnd::new(), other)
+}
+
+const RUNS: &[(
+    (&str, &str),
+    (&str, &str),
+    bool,
+    (usize, usize, usize),
+    &[bool],
+)] = &[
+    // no calls
+    (("", ""), ("", ""), true, (0, 0, 0), &[]),
+    // 5 km/h and 0 km/h after two calls, then a cycle whose block neither end is given
+    (
+        ("5p5", "yyf"),
+        ("0p0", "ynf"),
+        true,
+        (3, 3, 1),
+        &[false, false, false],
+    ),
+    // refused cycles give no block
+    (("5", "n"), ("0", "f"), true, (0, 1, 1), &[false]),
+    // accepted texts in another order, then a press
+    (
+        ("12p", "yyy"),
+        ("21p", "yyn"),
+        true,
+        (0, 1, 1),
+        &[true, true, false],
+    ),
+    // the same, one of them refused
+    (
+        ("12", "yn"),
+        ("21", "yy"),
+        false,
+        (0, 2, 1),
+        &[false, false],
+    ),
+    // other texts, and a text that changes places with a press
+    (
+        ("12", "yy"),
+        ("11", "yy"),
+        false,
+        (0, 2, 0),
+        &[false, false],
+    ),
+    (
+        ("p1", "yy"),
+        ("1p", "yy"),
+        false,
+        (0, 2, 0),
+        &[false, false],
+    ),
+    // texts in the same order, one list refused
+    (("12", "yy"), ("12", "nn"), true, (0, 2, 2), &[false, false]),
+    // a stretch that is longer in one list
+    (
+        ("12p", "yyy"),
+        ("211", "yyy"),
+        false,
+        (0, 3, 0),
+        &[false, false, false],
+    ),
+    // answers past the marks are compared too
+    (("p", "yy"), ("p", "yn"), false, (0, 2, 1), &[false]),
+    // one answer more than calls, and one fewer
+    (("p", "y"), ("p", "yy"), false, (0, 1, 0), &[false]),
+    (("pp", "yy"), ("pp", "y"), false, (0, 1, 0), &[false]),
+];
+
+// Whether the runs are alike; after how many calls the speeds are unequal, how many answers are compared, and how many of these differ; which calls are marked.
 #[test]
 fn runs_compared(rt: HostRuntime) -> Result<(), Fail> {
-    let heap = rt.alloc();
-    let yes = answer(None, Mode::Standby);
-    let no = answer(Some(Refusal::TextWaits), Mode::Standby);
-    let failed = answer(None, Mode::SystemFailure);
-    let five = Call::Cycle(&[0x80, 5]);
-    let standing = Call::Cycle(&[0, 0, 0, 0]);
-    let first = text(1, b"");
-    let second = text(2, b"");
-    let press = Call::Press(1);
-    for found in [
-        // no calls
-        Found {
-            run: Run {
-                calls: &[],
-                answers: &[],
-            },
-            other: Run {
-                calls: &[],
-                answers: &[],
-            },
-            alike: true,
-            marks: &[],
-            unequal: 0,
-            compared: 0,
-            differing: 0,
-        },
-        // 5 km/h and 0 km/h after two calls, then a cycle whose block neither end is given
-        Found {
-            run: Run {
-                calls: &[five, press, five],
-                answers: &[yes, yes, failed],
-            },
-            other: Run {
-                calls: &[standing, press, standing],
-                answers: &[yes, no, failed],
-            },
-            alike: true,
-            marks: &[false, false, false],
-            unequal: 3,
-            compared: 3,
-            differing: 1,
-        },
-        // refused cycles give no block
-        Found {
-            run: Run {
-                calls: &[five],
-                answers: &[no],
-            },
-            other: Run {
-                calls: &[standing],
-                answers: &[failed],
-            },
-            alike: true,
-            marks: &[false],
-            unequal: 0,
-            compared: 1,
-            differing: 1,
-        },
-        // accepted texts in another order, then a press
-        Found {
-            run: Run {
-                calls: &[first, second, press],
-                answers: &[yes, yes, yes],
-            },
-            other: Run {
-                calls: &[second, first, press],
-                answers: &[yes, yes, no],
-            },
-            alike: true,
-            marks: &[true, true, false],
-            unequal: 0,
-            compared: 1,
-            differing: 1,
-        },
-        // the same, one of them refused
-        Found {
-            run: Run {
-                calls: &[first, second],
-                answers: &[yes, no],
-            },
-            other: Run {
-                calls: &[second, first],
-                answers: &[yes, yes],
-            },
-            alike: false,
-            marks: &[false, false],
-            unequal: 0,
-            compared: 2,
-            differing: 1,
-        },
-        // other texts, and a text that changes places with a press
-        Found {
-            run: Run {
-                calls: &[first, second],
-                answers: &[yes, yes],
-            },
-            other: Run {
-                calls: &[first, first],
-                answers: &[yes, yes],
-            },
-            alike: false,
-            marks: &[false, false],
-            unequal: 0,
-            compared: 2,
-            differing: 0,
-        },
-        Found {
-            run: Run {
-                calls: &[press, first],
-                answers: &[yes, yes],
-            },
-            other: Run {
-                calls: &[first, press],
-                answers: &[yes, yes],
-            },
-            alike: false,
-            marks: &[false, false],
-            unequal: 0,
-            compared: 2,
-            differing: 0,
-        },
-        // texts in the same order, one list refused
-        Found {
-            run: Run {
-                calls: &[first, second],
-                answers: &[yes, yes],
-            },
-            other: Run {
-                calls: &[first, second],
-                answers: &[no, no],
-            },
-            alike: true,
-            marks: &[false, false],
-            unequal: 0,
-            compared: 2,
-            differing: 2,
-        },
-        // a stretch that is longer in one list
-        Found {
-            run: Run {
-                calls: &[first, second, press],
-                answers: &[yes, yes, yes],
-            },
-            other: Run {
-                calls: &[second, first, first],
-                answers: &[yes, yes, yes],
-            },
-            alike: false,
-            marks: &[false, false, false],
-            unequal: 0,
-            compared: 3,
-            differing: 0,
-        },
-        // answers past the marks are compared too
-        Found {
-            run: Run {
-                calls: &[press],
-                answers: &[yes, yes],
-            },
-            other: Run {
-                calls: &[press],
-                answers: &[yes, no],
-            },
-            alike: false,
-            marks: &[false],
-            unequal: 0,
-            compared: 2,
-            differing: 1,
-        },
-        // one answer more than calls, and one fewer
-        Found {
-            run: Run {
-                calls: &[press],
-                answers: &[yes],
-            },
-            other: Run {
-                calls: &[press],
-                answers: &[yes, yes],
-            },
-            alike: false,
-            marks: &[false],
-            unequal: 0,
-            compared: 1,
-            differing: 0,
-        },
-        Found {
-            run: Run {
-                calls: &[press, press],
-                answers: &[yes, yes],
-            },
-            other: Run {
-                calls: &[press, press],
-                answers: &[yes],
-            },
-            alike: false,
-            marks: &[false],
-            unequal: 0,
-            compared: 1,
-            differing: 0,
-        },
-    ] {
-        let verdict = compare_runs(heap, BusEnd::new(), found.run, PulseEnd::new(), found.other)?;
-        assert_eq!(rt; verdict.likeness.alike, found.alike);
-        assert_eq!(rt; verdict.likeness.reordered.as_slice(), found.marks);
-        assert_eq!(rt; verdict.unequal, found.unequal);
-        assert_eq!(rt; verdict.counts.compared, found.compared);
-        assert_eq!(rt; verdict.counts.differing, found.differing);
+    for (run, other, alike, counts, marks) in RUNS {
+        let verdict = compared(rt.alloc(), *run, *other)?;
+        assert_eq!(rt; verdict.likeness.alike, *alike);
+        assert_eq!(rt;
+            (
+                verdict.unequal,
+                verdict.counts.compared,
+                verdict.counts.differing
+            ),
+            *counts
+        );
+        assert_eq!(rt; verdict.likeness.reordered.as_slice(), *marks);
     }
     Ok(())
 }

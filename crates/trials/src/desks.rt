@@ -4,12 +4,12 @@ use std::test::Fail;
 
 #[test]
 fn levels_and_classes_have_numbers(rt: HostRuntime) {
-    for (level, number) in [(Level::Zero, 0), (Level::One, 1), (Level::Two, 2)] {
+    for &(level, number) in &[(Level::Zero, 0), (Level::One, 1), (Level::Two, 2)] {
         assert_eq!(rt; level.number(), number);
         assert_eq!(rt; Level::try_from(number), Ok(level));
     }
     assert_eq!(rt; Level::try_from(3), Err(Refusal::OutsideList));
-    for (class, number) in [
+    for &(class, number) in &[
         (Class::Trip, 0),
         (Class::Mode, 1),
         (Class::Level, 2),
@@ -22,7 +22,7 @@ fn levels_and_classes_have_numbers(rt: HostRuntime) {
 
 #[test]
 fn refusals_have_numbers(rt: HostRuntime) {
-    for (refusal, number) in [
+    for &(refusal, number) in &[
         (Refusal::NoSuchButton, 1),
         (Refusal::ButtonNotEnabled, 2),
         (Refusal::DriverNumber, 10),
@@ -72,7 +72,7 @@ fn requests_stand_in_order(rt: HostRuntime) {
 
 #[test]
 fn requests_are_written(rt: HostRuntime) -> Result<(), Fail> {
-    for (asked, words) in [
+    for &(asked, words) in &[
         (request(Class::Mode, 3, 2, true), "1:3@2t"),
         (
             request(Class::Hold, 0, 4294967295, false),

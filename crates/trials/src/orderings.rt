@@ -37,27 +37,43 @@ fn the_earliest_of_the_first(rt: HostRuntime) {
         marked(2, 'c'),
         marked(1, 'd'),
     ];
-    for (n, place) in [(0, None), (1, Some(0)), (2, Some(1)), (4, Some(1))] {
+    for &(n, place) in &[(0, None), (1, Some(0)), (2, Some(1)), (4, Some(1))] {
         assert_eq!(rt; first_of(&run[0..n]), place);
     }
 }
 
+const A: Mark = Mark {
+    level: 4,
+    name: 'a',
+};
+
+const B: Mark = Mark {
+    level: 6,
+    name: 'b',
+};
+
+const C: Mark = Mark {
+    level: 5,
+    name: 'c',
+};
+
 #[test]
 fn a_shelf_of_two(rt: HostRuntime) {
-    let mut run = [marked(9, '-'), marked(9, '-')];
+    let mut run = [C, C];
     let mut shelf = Shelf::new(&mut run);
     assert_eq!(rt; shelf.first(), None);
-    assert_eq!(rt; shelf.put_front(marked(4, 'a')), Ok(()));
-    assert_eq!(rt; shelf.put_front(marked(6, 'b')), Ok(()));
-    assert_eq!(rt;
-        shelf.put_front(marked(5, 'c')),
-        Err(ShelfRefusal::NoFreePlace)
-    );
+    for &(mark, put) in &[
+        (A, Ok(())),
+        (B, Ok(())),
+        (C, Err(ShelfRefusal::NoFreePlace)),
+    ] {
+        assert_eq!(rt; shelf.put_front(mark), put);
+    }
     assert_eq!(rt; shelf.first(), Some(1));
     assert_eq!(rt; shelf.take_out(2), Err(ShelfRefusal::NoSuchPosition));
-    assert_eq!(rt; shelf.take_out(0), Ok(marked(6, 'b')));
-    assert_eq!(rt; shelf.live(), [marked(4, 'a')].as_slice());
-    assert_eq!(rt; shelf.put_front(marked(6, 'b')), Ok(()));
-    assert_eq!(rt; shelf.take_out(1), Ok(marked(4, 'a')));
-    assert_eq!(rt; shelf.live(), [marked(6, 'b')].as_slice());
+    for &(place, taken, left) in &[(0, B, A), (1, A, B)] {
+        assert_eq!(rt; shelf.take_out(place), Ok(taken));
+        assert_eq!(rt; shelf.live(), [left].as_slice());
+        assert_eq!(rt; shelf.put_front(taken), Ok(()));
+    }
 }

@@ -24,7 +24,7 @@ fn calls_are_told(rt: HostRuntime) -> Result<(), Fail> {
         wanted: false,
         text: b"",
     };
-    for (call, words) in [
+    for &(call, words) in &[
         (Call::Cycle(&[0x80, 0x00]), "cycle"),
         (Call::Press(10), "press 10"),
         (Call::Take(TRAIN), "take"),
@@ -81,7 +81,7 @@ fn notes_are_told(rt: HostRuntime) -> Result<(), Fail> {
         fault: Fault::OutsideList,
         first: 6,
     };
-    for (note, name, number, columns) in [
+    for &(note, name, number, columns) in &[
         (
             Note::Draft(Refusal::BrakePercentage),
             "draft",

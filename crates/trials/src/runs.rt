@@ -78,11 +78,10 @@ fn both_answer<E: TrainEnd + Drop, F: TrainEnd + Drop>(
 ) -> Result<(), Fail> {
     let mut places = [BLANK; 8];
     let mut other_places = [BLANK; 8];
-    let answers = places.get_mut(0..calls.len()).ok_or("too many calls")?;
-    let other_answers = other_places
-        .get_mut(0..others.len())
-        .ok_or("too many calls")?;
-    match run_lent(one, other, calls, others, answers, other_answers) {
+    let n = calls.len().min(8);
+    let answers = &mut places[0..n];
+    let other_answers = &mut other_places[0..n];
+    match run_lent(one, other, &calls[0..n], others, answers, other_answers) {
         Ok(ran) => {
             let Cabs { one, other } = ran;
             let _one = one.switch_off();
@@ -90,11 +89,12 @@ fn both_answer<E: TrainEnd + Drop, F: TrainEnd + Drop>(
         }
         Err(_ends) => return Err("the places do not fit".into()),
     }
+    assert_eq!(rt; answers.len(), expected.len());
     for (i, wanted) in expected.iter().enumerate() {
-        let answer = answers.get(i).ok_or("too few calls")?;
-        assert_eq!(rt; shown(answer), *wanted, "the first cab");
-        let answer = other_answers.get(i).ok_or("too few calls")?;
-        assert_eq!(rt; shown(answer), *wanted, "the other cab");
+        assert_eq!(rt;
+            (shown(&answers[i]), shown(&other_answers[i])),
+            (*wanted, *wanted)
+        );
     }
     Ok(())
 }

@@ -61,7 +61,7 @@ fn orders_are_read(rt: HostRuntime) {
 
 #[test]
 fn values_stand_at_their_bits(rt: HostRuntime) {
-    for (bytes, order) in [
+    for &(bytes, order) in &[
         ([0x10, 3, 0x00], Order::Authority(Mode::FullSupervision)),
         ([0x10, 3, 0x40], Order::Authority(Mode::OnSight)),
         ([0x10, 3, 0x80], Order::Authority(Mode::LimitedSupervision)),
@@ -190,7 +190,7 @@ fn a_telegram_is_read_to_its_first_fault(rt: HostRuntime) -> Result<(), Fail> {
 
 #[test]
 fn modes_have_codes_and_names(rt: HostRuntime) {
-    for (mode, code, name) in [
+    for &(mode, code, name) in &[
         (Mode::Standby, 0, "SB"),
         (Mode::StaffResponsible, 1, "SR"),
         (Mode::FullSupervision, 2, "FS"),
@@ -208,7 +208,7 @@ fn modes_have_codes_and_names(rt: HostRuntime) {
 
 #[test]
 fn faults_have_numbers_and_words(rt: HostRuntime) -> Result<(), Fail> {
-    for (fault, number, words) in [
+    for &(fault, number, words) in &[
         (Fault::CutShort, 20, "cut short"),
         (Fault::UnknownKind, 21, "unknown kind"),
         (Fault::WrongLength, 22, "wrong length"),

@@ -69,7 +69,7 @@ fn lines<E: TrainEnd + Drop>(mut end: E, line: BrakeLine) -> (u8, u8, Option<u16
 
 #[test]
 fn brake_lines_by_their_numbers(rt: HostRuntime) {
-    for (line, number) in [
+    for &(line, number) in &[
         (BrakeLine::Released, 0),
         (BrakeLine::Service, 1),
         (BrakeLine::Emergency, 2),

@@ -80,7 +80,7 @@ fn parts_of_a_store(rt: HostRuntime) {
 
 #[test]
 fn refusals_of_the_shelf(rt: HostRuntime) {
-    for (why, refusal) in [
+    for &(why, refusal) in &[
         (ShelfRefusal::NoFreePlace, Refusal::NoFreeLine),
         (ShelfRefusal::NoSuchPosition, Refusal::NoSuchLine),
     ] {
@@ -90,7 +90,7 @@ fn refusals_of_the_shelf(rt: HostRuntime) {
 
 #[test]
 fn numbers_and_texts(rt: HostRuntime) -> Result<(), Fail> {
-    for (refusal, number, text) in [
+    for &(refusal, number, text) in &[
         (Refusal::NoFreeLine, 50, "No line is free."),
         (Refusal::NumberThere, 51, "The number is there already."),
         (Refusal::NoSuchLine, 52, "There is no such line."),
