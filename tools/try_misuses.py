@@ -4,8 +4,8 @@
     python3 tools/try_misuses.py
 
 The prover is not asked: a misuse is no program, so it cannot be a must-fail edit of a crate. A file there names a
-source file, one of its lines, the line in its place, and the error that the compiler has to give. The check works on a
-copy; that the crate compiles as it stands is seen by its proof.
+source file, one of its lines, the line in its place, and the error that the compiler has to give. Each check works
+on a copy; that the crate compiles as it stands is seen by its proof.
 """
 import shutil
 import subprocess
@@ -36,7 +36,7 @@ def try_misuse(path):
         source = top / misuse["file"]
         text = source.read_text()
         if text.count(misuse["old"]) != 1:
-            return False, f"{misuse['file']} does not have once: {misuse['old']}"
+            return False, f"misuse {path.stem}: {misuse['file']} does not have once: {misuse['old']}"
         source.write_text(text.replace(misuse["old"], misuse["new"]))
         said = compile_crate(top / Path(misuse["file"]).parents[1])
     if f": error[{misuse['refused']}]: " in said and "run=none" in said:
@@ -46,6 +46,7 @@ def try_misuse(path):
 
 def main():
     misuses = sorted((TOP / "misuses").glob("*.edit"))
+    # the gate has two cores
     with ThreadPoolExecutor(2) as pool:
         tried = list(pool.map(try_misuse, misuses))
     for _, told in tried:

@@ -3,9 +3,8 @@
 
     python3 tools/try_program.py [PROGRAM]
 
-A case is a folder: `command` has the words behind the program's name, `stdin` what it reads (nothing where there is
-none), `stdout` and `stderr` all that it has to print (nothing where there is none), `status` its status (0 where there
-is none). Where something else came, it is shown beside what was wanted. Nothing is printed where all is well.
+PROGRAM is the one that `rt ci` or ./cabcheck has built, where no other is named. How a case is written is told in
+cases/README.md. Where something else came, it is shown beside what was wanted. Nothing is printed where all is well.
 """
 import difflib
 import os
@@ -18,7 +17,9 @@ from pathlib import Path
 
 TOP = Path(__file__).resolve().parent.parent
 PROGRAM = Path(sys.argv[1] if len(sys.argv) > 1 else TOP / "crates/cabcheck/out/cabcheck").resolve()
-NO_ROOM = b"cabcheck: output: File too large (os error 27)\n"
+FULL_FILE = b"cabcheck: output: File too large (os error 27)\n"
+MORNING = TOP / "examples/morning.calls"
+BUFFER = 8192
 NO_MEMORY = b"cabcheck: not enough memory\n"
 NO_MEMORY_FOR_THE_LIST = b"cabcheck: -: out of memory\n"
 
@@ -31,6 +32,7 @@ def run(words, stdin=b"", cwd=TOP, stdout=subprocess.PIPE, limits=()):
     """The program's status, and what it printed."""
 
     def limit():
+        # a write past the limit is to fail, and not to end the program
         signal.signal(signal.SIGXFSZ, signal.SIG_IGN)
         for which, most in limits:
             resource.setrlimit(which, (most, most))
@@ -56,48 +58,55 @@ def try_case(case):
 
 
 def long_list(shift):
-    """A list whose rows fill buffers. The larger the shift, the further on in a row a buffer is full."""
-    text = "a" * shift
-    rows = ["cycle 8000 00000000"]
-    rows += [f"order text {14 if row < shift else 4} shown" for row in range(100)]
-    rows += [f"telegram 30{4 + shift:02x}0100{text.encode().hex()}"]
-    rows += ["order sign", "press 1", "cycle 8000 00000001", "record 0 1 10 5", "telegram 600230"] * 40
+    """A list whose rows fill buffers. The row of a draft is shorter than others, so each draft moves the rows behind it against the end of a buffer."""
+    rows = ["cycle 8000 00000000", "telegram 300601004869"]
+    rows += ["record 0 1 10 5"] * shift
+    rows += ["order sign", "press 1", "cycle 8000 00000001", "telegram 600230"] * 60
     return "".join(f"{row}\n" for row in rows).encode()
 
 
-def try_full_file(room):
-    """Wherever there is no more room in a file, that is what is told, and what stands there is how the output begins."""
+def try_full_file(folder):
+    """Where a file takes no more bytes, that is what is told, and what stands there is how the output begins.
+
+    The program writes when its buffer of 8192 bytes is full, and at the end: so the file is full at once, after one
+    buffer, and, where all fits into one, a byte before the end.
+    """
     told = []
-    printed = room / "printed"
+    printed = folder / "printed"
+    short = MORNING.read_bytes()
     for words in ([], ["--tsv"]):
-        for shift in range(0, 100):
-            text = long_list(shift)
+        size = len(run(words, short)[1])
+        trials = [(short, most) for most in (0, size // 2, size - 1)]
+        trials += [(long_list(shift), most) for shift in range(100) for most in (0, BUFFER)]
+        for text, most in trials:
             _, whole, _ = run(words, text)
-            for most in (0, 8192 + 50 * shift):
-                with open(printed, "wb") as out:
-                    status, _, stderr = run(words, text, stdout=out, limits=[(resource.RLIMIT_FSIZE, most)])
-                told += differences(f"{words} of {shift} in {most} bytes", (1, whole[:most], NO_ROOM), (status, printed.read_bytes(), stderr))
+            with open(printed, "wb") as out:
+                status, _, stderr = run(words, text, stdout=out, limits=[(resource.RLIMIT_FSIZE, most)])
+            name = f"full file, {words}, {len(text)} bytes of calls, {most} bytes taken"
+            told += differences(name, (1, whole[:most], FULL_FILE), (status, printed.read_bytes(), stderr))
     return told
 
 
 def try_little_memory():
-    """Wherever memory is wanting, that is what is told, and what was printed is how the output begins."""
+    """Where memory is wanting, that is what is told, and what was printed is how the output begins.
+
+    The limits are those of this list: from the least with which the program starts to more than it needs. Long texts
+    want memory while rows are printed.
+    """
     told = []
     text = f"telegram 30cc0100{200 * '61'}\n".encode() * 3000
     _, whole, _ = run([], text)
     came = set()
-    for most in range(4096, 8192, 128):
-        status, stdout, stderr = run([], text, limits=[(resource.RLIMIT_AS, most * 1024)])
+    for kilobytes in range(4096, 8192, 128):
+        status, stdout, stderr = run([], text, limits=[(resource.RLIMIT_AS, kilobytes * 1024)])
         if status == 1 and stderr in (NO_MEMORY_FOR_THE_LIST, NO_MEMORY) and whole.startswith(stdout):
-            came.add("wanting for the list" if stderr == NO_MEMORY_FOR_THE_LIST else "wanting while it prints" if stdout else "wanting before")
+            came.add("wanting to read the list" if stderr == NO_MEMORY_FOR_THE_LIST else "wanting while rows are printed" if stdout else "wanting before")
         elif (status, stdout, stderr) == (0, whole, b""):
             came.add("enough")
         else:
-            told.append(f"in {most} kB: status {status}, {len(stdout)} bytes, {stderr}")
-    lacking = {"wanting before", "wanting while it prints", "enough"} - came
-    if lacking:
-        told.append(f"memory was never {' or '.join(sorted(lacking))}")
-    return told
+            told.append(f"little memory, {kilobytes} kB: status {status}, {len(stdout)} bytes, {stderr}")
+    every = {"wanting to read the list", "wanting before", "wanting while rows are printed", "enough"}
+    return told + [f"little memory: it was never {it}" for it in sorted(every - came)]
 
 
 def try_closed_pipe():
@@ -105,16 +114,19 @@ def try_closed_pipe():
     reader, writer = os.pipe()
     os.close(reader)
     with open(writer, "wb") as out:
-        return differences("closed pipe", (1, b"", b""), run([TOP / "examples/morning.calls"], stdout=out))
+        return differences("closed pipe", (1, b"", b""), run([MORNING], stdout=out))
 
 
 def main():
-    cases = sorted((TOP / "cases").iterdir())
+    if not PROGRAM.exists():
+        print(f"there is no program {PROGRAM}: rt ci or ./cabcheck builds it")
+        return 1
+    cases = sorted(path for path in (TOP / "cases").iterdir() if path.is_dir())
     told = [line for case in cases for line in try_case(case)]
     told += try_closed_pipe()
     told += try_little_memory()
-    with tempfile.TemporaryDirectory() as room:
-        told += try_full_file(Path(room))
+    with tempfile.TemporaryDirectory() as folder:
+        told += try_full_file(Path(folder))
     print("\n".join(told), end="\n" if told else "")
     return 1 if told or not cases else 0
 

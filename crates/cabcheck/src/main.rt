@@ -30,11 +30,12 @@ or for -, the list comes from standard input.
                   the pulse cab
   --second LIST2  run LIST2 in the pulse cab, and say whether the two lists
                   are the same up to blocks and the order of texts
-  --help          print this
+  --help, -h      print this
   --version       print the version
 
 The status is 1 where answers differ or one cab has more calls, for a bad
-option or a bad line, and where a list cannot be read or output not written.
+option or a bad line, where a list cannot be read or output not written, and
+for want of memory.
 ";
 
 // Does what is asked, and answers whether all is well: answers that differ are not.

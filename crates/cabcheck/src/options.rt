@@ -27,7 +27,7 @@ pub fn read_options(rt: &HostRuntime) -> anyhow::Result<Asked> {
 }
 
 // What the words behind the program's name ask for.
-pub fn options_of(mut words: env::Args) -> anyhow::Result<Asked> {
+fn options_of(mut words: env::Args) -> anyhow::Result<Asked> {
     let mut tsv = false;
     let mut list = None;
     let mut second = None;

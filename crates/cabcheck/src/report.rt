@@ -1,6 +1,6 @@
 use crate::failure::Failure;
 use crate::plan::{Cab, Plan};
-use crate::side::Side;
+use crate::side::{Side, Sides};
 use crate::table::print_table;
 use crate::tsv::print_tsv;
 use bench::{Ran, run_both};
@@ -37,27 +37,30 @@ pub fn report_runs<W: Write + Drop>(
     .map_err(|_not_run| Failure::NoMemory)?;
     let _bus_end = one.switch_off();
     let _pulse_end = other.switch_off();
-    let bus = Side::new(BusEnd::new(), &bus, &answers);
-    let pulse = Side::new(PulseEnd::new(), &pulse, &other_answers);
-    print_sides(out, heap, tsv, second.is_some(), &bus, &pulse)
+    let sides = Sides {
+        bus: Side::new(BusEnd::new(), &bus, &answers),
+        pulse: Side::new(PulseEnd::new(), &pulse, &other_answers),
+    };
+    report_sides(out, heap, tsv, second.is_some(), &sides)
 }
 
-// Prints what was answered in both cabs, as rows or as the table with its last lines. Answers as above.
-fn print_sides<W: Write + Drop>(
+// Compares the answers of both cabs and prints what came of it, as rows or as the table with its last lines.
+// Answers whether both made as many calls and all answers that are compared agree.
+fn report_sides<W: Write + Drop>(
     out: &mut W,
     heap: Global,
     tsv: bool,
     two_lists: bool,
-    bus: &Side<'_, '_>,
-    pulse: &Side<'_, '_>,
+    sides: &Sides<'_, '_>,
 ) -> Result<bool, Failure<'static>> {
+    let Sides { bus, pulse } = sides;
     let verdict = compare_runs(heap, BusEnd::new(), bus.run(), PulseEnd::new(), pulse.run())?;
     if tsv {
         print_tsv(out, Cab::Bus, bus)?;
         print_tsv(out, Cab::Pulse, pulse)?;
     } else {
-        print_table(out, heap, bus, pulse, &verdict.likeness)?;
-        print_verdict(out, two_lists, bus, pulse, &verdict)?;
+        print_table(out, heap, sides, &verdict.likeness)?;
+        print_verdict(out, two_lists, sides, &verdict)?;
     }
     Ok(verdict.counts.differing == 0 && bus.answers.len() == pulse.answers.len())
 }
@@ -66,8 +69,7 @@ fn print_sides<W: Write + Drop>(
 fn print_verdict<W: Write>(
     out: &mut W,
     two_lists: bool,
-    bus: &Side<'_, '_>,
-    pulse: &Side<'_, '_>,
+    sides: &Sides<'_, '_>,
     verdict: &Verdict,
 ) -> io::Result<()> {
     let Verdict {
@@ -91,8 +93,8 @@ fn print_verdict<W: Write>(
             "the lists are {lists} up to blocks and the order of neighbouring texts; the speeds were {speeds}"
         )?;
     }
-    let calls = bus.answers.len();
-    let others = pulse.answers.len();
+    let calls = sides.bus.answers.len();
+    let others = sides.pulse.answers.len();
     write!(
         out,
         "{calls} calls in the bus cab, {others} in the pulse cab, {compared} answers compared: "

@@ -45,6 +45,13 @@ impl<'p, 'c> Side<'p, 'c> {
     }
 }
 
+// Both cabs, side by side.
+#[derive(Clone, Copy)]
+pub struct Sides<'p, 'c> {
+    pub bus: Side<'p, 'c>,
+    pub pulse: Side<'p, 'c>,
+}
+
 // A call of the unit with its answer; an order of a telegram as it was read there.
 #[derive(Clone, Copy)]
 pub struct Answered<'c> {

@@ -1,6 +1,6 @@
 use crate::messages::{FREE, Messages, ROWS};
 use crate::plan::{Cab, Row, Told};
-use crate::side::{Answered, Side};
+use crate::side::{Answered, Sides};
 use cab_unit::Call;
 use columns::{CallWords, Note, RequestWords, outcome_number};
 use compare::{Likeness, same_asked};
@@ -275,10 +275,10 @@ impl<W: Write> Table<'_, W> {
 pub fn print_table<W: Write + Drop>(
     out: &mut W,
     heap: Global,
-    bus: &Side<'_, '_>,
-    pulse: &Side<'_, '_>,
+    sides: &Sides<'_, '_>,
     likeness: &Likeness,
 ) -> io::Result<()> {
+    let Sides { bus, pulse } = sides;
     let mut lines = [FREE; ROWS];
     let mut messages = Messages::new(heap, &mut lines);
     // One mark for each call of the bus cab, as the comparison answers them.

@@ -44,9 +44,9 @@ fn calls_asked(rt: HostRuntime) {
     }
 }
 
-// A call for each letter: a cycle at 5 km/h or standing, the text 1 or 2, and else a press.
-fn call_of(letter: char) -> Call<'static> {
-    match letter {
+// A call for each sign: a cycle that a bus end reads as 5 km/h, one that a pulse end reads as 0, the text 1 or 2, and else a press.
+fn call_of(sign: char) -> Call<'static> {
+    match sign {
         '5' => Call::Cycle(&[0x80, 5]),
         '0' => Call::Cycle(&[0, 0, 0, 0]),
         '1' => text(1, b""),
@@ -55,27 +55,27 @@ fn call_of(letter: char) -> Call<'static> {
     }
 }
 
-// An answer for each letter: accepted, in System Failure, and else refused.
-fn answer_of(letter: char) -> Answer {
-    match letter {
+// An answer for each sign: accepted, in System Failure, and else refused.
+fn answer_of(sign: char) -> Answer {
+    match sign {
         'y' => answer(None, Mode::Standby),
         'f' => answer(None, Mode::SystemFailure),
         _ => answer(Some(Refusal::TextWaits), Mode::Standby),
     }
 }
 
-fn calls_of(heap: Global, letters: &str) -> Result<Vec<Call<'static>>, AllocError> {
+fn calls_of(heap: Global, signs: &str) -> Result<Vec<Call<'static>>, AllocError> {
     let mut calls = Vec::new(heap);
-    for letter in letters.chars() {
-        calls.push(call_of(letter))?;
+    for sign in signs.chars() {
+        calls.push(call_of(sign))?;
     }
     Ok(calls)
 }
 
-fn answers_of(heap: Global, letters: &str) -> Result<Vec<Answer>, AllocError> {
+fn answers_of(heap: Global, signs: &str) -> Result<Vec<Answer>, AllocError> {
     let mut answers = Vec::new(heap);
-    for letter in letters.chars() {
-        answers.push(answer_of(letter))?;
+    for sign in signs.chars() {
+        answers.push(answer_of(sign))?;
     }
     Ok(answers)
 }
@@ -97,6 +97,7 @@ fn compared(heap: Global, run: (&str, &str), other: (&str, &str)) -> Result<Verd
     compare_runs(heap, BusEnd::new(), run, PulseEnd::new(), other)
 }
 
+// Two runs; whether they are alike; after how many calls the speeds are unequal, how many answers are compared, and how many of these differ; which calls are marked.
 const RUNS: &[(
     (&str, &str),
     (&str, &str),
@@ -164,7 +165,6 @@ const RUNS: &[(
     (("pp", "yy"), ("pp", "y"), false, (0, 1, 0), &[false]),
 ];
 
-// Whether the runs are alike; after how many calls the speeds are unequal, how many answers are compared, and how many of these differ; which calls are marked.
 #[test]
 fn runs_compared(rt: HostRuntime) -> Result<(), Fail> {
     for (run, other, alike, counts, marks) in RUNS {

@@ -42,6 +42,7 @@ fn the_earliest_of_the_first(rt: HostRuntime) {
     }
 }
 
+// Marks for a shelf of two: the third finds no place.
 const A: Mark = Mark {
     level: 4,
     name: 'a',
@@ -59,7 +60,7 @@ const C: Mark = Mark {
 
 #[test]
 fn a_shelf_of_two(rt: HostRuntime) {
-    let mut run = [C, C];
+    let mut run = [marked(9, '-'), marked(9, '-')];
     let mut shelf = Shelf::new(&mut run);
     assert_eq!(rt; shelf.first(), None);
     for &(mark, put) in &[

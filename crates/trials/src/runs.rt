@@ -78,10 +78,13 @@ fn both_answer<E: TrainEnd + Drop, F: TrainEnd + Drop>(
 ) -> Result<(), Fail> {
     let mut places = [BLANK; 8];
     let mut other_places = [BLANK; 8];
-    let n = calls.len().min(8);
+    let n = calls.len();
+    if n > 8 {
+        return Err("too many calls".into());
+    }
     let answers = &mut places[0..n];
     let other_answers = &mut other_places[0..n];
-    match run_lent(one, other, &calls[0..n], others, answers, other_answers) {
+    match run_lent(one, other, calls, others, answers, other_answers) {
         Ok(ran) => {
             let Cabs { one, other } = ran;
             let _one = one.switch_off();
