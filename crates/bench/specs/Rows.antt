@@ -87,7 +87,7 @@ FirstRefusals =
     × (outcome_of (text' 9 ∷ replicate 51 still ++ (text' 4 ∷ [])) (order (withdrawal 4)) ≡ 0)
 
 -- no button 0 or 10; a button that is not enabled; numbers that no draft takes, at both ends of each range; a taking with the speed
--- unknown; a mode and a level outside their lists; a text that waits already; a text that does not wait, and one that is overdue
+-- unknown; a mode and a level outside their lists; a text that waits already; a text that does not wait, and one that is not overdue yet
 abbrev pub RefusalRows : Type 0
 RefusalRows =
     (outcome_of [] (press 0) ≡ 1) × (outcome_of [] (press 10) ≡ 1) × (outcome_of [] (press 9) ≡ 2)

@@ -119,6 +119,14 @@ fn same_told(told: &Told<Answered<'_>>, other: &Told<Answered<'_>>) -> bool {
     }
 }
 
+// The same answer, to whatever call.
+fn same_answer(told: &Told<Answered<'_>>, other: &Told<Answered<'_>>) -> bool {
+    match (*told, *other) {
+        (Told::Call(one), Told::Call(other)) => one.answer == other.answer,
+        _ => false,
+    }
+}
+
 // Two rows that stand beside each other, or one alone.
 type Pair<'b, 'p> = EitherOrBoth<Row<Answered<'b>>, Row<Answered<'p>>>;
 
@@ -127,15 +135,17 @@ type Pair<'b, 'p> = EitherOrBoth<Row<Answered<'b>>, Row<Answered<'p>>>;
 enum Mark {
     NotCompared,
     Reordered,
+    OtherCall,
     Differ,
 }
 
 impl Mark {
-    fn of_rows(compared: bool, reordered: bool) -> Mark {
-        match (compared, reordered) {
-            (false, _) => Mark::NotCompared,
-            (true, true) => Mark::Reordered,
-            (true, false) => Mark::Differ,
+    fn of_rows(compared: bool, reordered: bool, same_answer: bool) -> Mark {
+        match (compared, reordered, same_answer) {
+            (false, _, _) => Mark::NotCompared,
+            (true, true, _) => Mark::Reordered,
+            (true, false, true) => Mark::OtherCall,
+            (true, false, false) => Mark::Differ,
         }
     }
 }
@@ -145,6 +155,7 @@ impl fmt::Display for Mark {
         match self {
             Mark::NotCompared => Ok(()),
             Mark::Reordered => f.write_str("  ~ another order"),
+            Mark::OtherCall => f.write_str("  ~ another call"),
             Mark::Differ => f.write_str("  < differ"),
         }
     }
@@ -217,14 +228,16 @@ impl<W: Write> Table<'_, W> {
             || other.is_some_and(|row| row.is_of_call());
         let message = if of_calls { message } else { Message(None) };
         let mut column = Column::Blank;
+        let mut answers_agree = false;
         if let (Some(one), Some(two)) = (row, other) {
             column = Column::of_cycles(&one.told, &two.told);
             if same_told(&one.told, &two.told) {
                 self.print_row("", &one, column)?;
                 return writeln!(self.out, "{message}");
             }
+            answers_agree = same_answer(&one.told, &two.told);
         }
-        let mark = Mark::of_rows(of_calls, reordered);
+        let mark = Mark::of_rows(of_calls, reordered, answers_agree);
         self.print_side(Cab::Bus, row, column, message, mark)?;
         self.print_side(Cab::Pulse, other, column, Message(None), mark)
     }

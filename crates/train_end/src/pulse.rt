@@ -14,6 +14,8 @@ pub struct PulseEnd {
     first_relay: bool,
     second_relay: bool,
     ghost range: { in_range speed ≡ true },
+    // The first is on only with the second: at emergency both are off.
+    ghost rests: { first_relay ≡ true → second_relay ≡ true },
 }
 
 // The counts of the two axles in a block of four bytes, high byte first.
