@@ -20,7 +20,9 @@ use Rattle.driver_desk.specs.declared.level.Level.TheVariants.{Zero, One, Two}
 use Rattle.driver_desk.specs.declared.request.Class.TheVariants as class
 use Rattle.driver_desk.specs.declared.refusal.Refusal.{Refusal}
 use Rattle.driver_desk.specs.declared.refusal.Refusal.TheVariants.{InSystemFailure}
-use Rattle.bench.specs.Likeness.{is_cycle, is_accepted, speed_after}
+use Rattle.driver_desk.specs.Answers.{is_accepted}
+use Rattle.cab_unit.specs.Events.{is_cycle}
+use Rattle.bench.specs.Likeness.{speed_after}
 use Rattle.cab_unit.proofs.Heard.{cond-none}
 
 -- of two changes that leave the speed v, either does

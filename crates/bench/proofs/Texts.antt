@@ -15,7 +15,8 @@ use Rattle.cab_unit.specs.Steps.{next}
 use Rattle.driver_desk.specs.declared.refusal.Refusal.TheVariants.{TextWaits, TwelveTextsWait, InSystemFailure}
 use Rattle.driver_desk.specs.declared.request.Class.TheVariants as class
 use Rattle.driver_desk.specs.declared.request.Request.{Request}
-use Rattle.bench.specs.Likeness.{Shuffle, Shuffle.none, Shuffle.keep, Shuffle.swap, Shuffle.both, is_cycle, is_text}
+use Rattle.cab_unit.specs.Events.{is_cycle, is_text}
+use Rattle.ordering.specs.Shuffle.{Shuffle, Shuffle.none, Shuffle.keep, Shuffle.swap, Shuffle.both}
 use Rattle.bench.specs.Runs.{last_by, after}
 use Rattle.bench.proofs.Accepted.{heard}
 use Rattle.cab_unit.proofs.Before.{before-order}

@@ -18,7 +18,8 @@ use Rattle.driver_desk.specs.Requests.{is_for}
 use Rattle.bench.specs.Book.{Book, new_book, FairAt}
 use Rattle.bench.specs.Entries.{Entry}
 use Rattle.bench.specs.Laws.{Balanced, Confirmed, EndEqual}
-use Rattle.bench.specs.Likeness.{Told, is_cycle, Alike.ended, Alike.cycles, Alike.other}
+use Rattle.cab_unit.specs.Events.{is_cycle}
+use Rattle.bench.specs.Likeness.{Told, Alike.ended, Alike.cycles, Alike.other}
 
 abbrev pub text7 : Request
 text7 = record { class = class.Text; number = 7; raised = 0; timed = true }

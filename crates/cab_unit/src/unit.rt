@@ -70,6 +70,13 @@ impl<E: TrainEnd> Unit<E> {
         self.cab.answer(None, Done::default())
     }
 
+    // The speed of the unit's own end, in km/h, 0 to 600; none where it is unknown.
+    pub fn speed(&self) -> Option<u16>
+        ensures { result ≡ (view E.TrainEnd self.now.cab).speed }
+    {
+        self.cab.end.speed()
+    }
+
     pub fn press(&mut self, button: u8) -> Answer
         ensures state { view E.TrainEnd self.new.cab ≡ next E.reading (events.Event.press button) (view E.TrainEnd self.old.cab) }
         ensures answer { result ≡ reply E.reading (events.Event.press button) (view E.TrainEnd self.old.cab) }

@@ -1,24 +1,26 @@
 -- Lists that are walked and found alike: where the speeds were equal, the runs as told are alike.
 use Rattle.std.proofs.Common.{◌≡◌, ℕ, zero, suc, ◌+◌, ◌≤◌, Bool, true, false, cond, List, [], ◌∷◌, ◌++◌, map, length, take, drop, replicate, Some, None, Option, sym, refl, ap, ◌∙◌, subst₂, ⊎_elim, arith}
 use Rattle.std.proofs.lemmas.List.{length-take-le}
-use Rattle.std.proofs.lemmas.Bool.{true≢false, false≢true, eqb-true, and_parts, cases_Bool}
+use Rattle.std.proofs.lemmas.Bool.{true≢false, false≢true, eqb-true, cases_Bool}
 use Rattle.cab_unit.specs.Events.{Event, Event.cycle, Event.order, Event.press, Event.take as taken}
 use Rattle.driver_desk.specs.declared.answer.Answer.{Answer}
 use Rattle.compare.specs.Asked.{unblocked}
 use Rattle.compare.specs.Compared.{same_speed, unequal_speeds, AgreeOutside, LawApplies}
-use Rattle.bench.specs.Likeness.{Told, speed_after, told, Shuffle, is_cycle, is_text, AcceptedTexts, Alike, Alike.ended as nothing, Alike.cycles, Alike.other, Alike.texts as stretches, AnswersAgree}
-use Rattle.compare.specs.Walked.{Texts, Accepted, Within, Judged, Judged.same, Judged.reordered, Judged.apart, Front.one, Front.uneven, Front.texts, Walked, Walked.ended, Walked.more}
+use Rattle.cab_unit.specs.Events.{is_cycle, is_text}
+use Rattle.ordering.specs.Shuffle.{Shuffle}
+use Rattle.bench.specs.Likeness.{Told, speed_after, told, AcceptedTexts, Alike, Alike.ended as nothing, Alike.cycles, Alike.other, Alike.texts as stretches, AnswersAgree}
+use Rattle.compare.specs.Walked.{Texts, Accepted, Within, Front.same, Front.other as other_call, Front.stretch, Front.apart, Walked, Walked.ended, Walked.more}
 use Rattle.compare.proofs.Asking.{same-cycles, same-call}
 
 -- a text does not touch the speed
-text-speed : (reads : List ℕ → Option ℕ) (e : Event) (a : Answer) (v : Option ℕ) → is_text e ≡ true → speed_after reads e a v ≡ v
+pub text-speed : (reads : List ℕ → Option ℕ) (e : Event) (a : Answer) (v : Option ℕ) → is_text e ≡ true → speed_after reads e a v ≡ v
 text-speed reads (cycle block) a v h = absurd (false≢true h)
 text-speed reads (order o) a v h = refl
 text-speed reads (press n) a v h = refl
 text-speed reads (taken t) a v h = refl
 
 -- a text is no cycle
-text_no_cycle : (e : Event) → is_text e ≡ true → is_cycle e ≡ false
+pub text_no_cycle : (e : Event) → is_text e ≡ true → is_cycle e ≡ false
 text_no_cycle (cycle block) h = absurd (false≢true h)
 text_no_cycle (order o) h = refl
 text_no_cycle (press n) h = refl
@@ -81,23 +83,6 @@ module _ (reads reads' : List ℕ → Option ℕ) where
   abbrev Applies : Option ℕ → Option ℕ → List Bool → List Event → List Answer → List Event → List Answer → Type 0
   Applies v v' ms es as' fs bs = (k : Alike (told reads v es as') (told reads' v' fs bs)) × (AnswersAgree k → AgreeOutside ms as' bs)
 
-  -- in front of these, the same texts in the same order
-  apply_same : (k : ℕ) (ms : List Bool) (es fs : List Event) (as' bs : List Answer) (v v' : Option ℕ) → Within k es as' fs bs → Texts (take k es) → Texts (take k fs) → take k es ≡ take k fs →
-      Applies v v' ms (drop k es) (drop k as') (drop k fs) (drop k bs) → Applies v v' (replicate k false ++ ms) es as' fs bs
-  apply_same zero ms es fs as' bs v v' h t u p r = r
-  apply_same (suc k) ms [] fs as' bs v v' h t u p r = absurd (omega (arith, h.0))
-  apply_same (suc k) ms (x ∷ es) fs [] bs v v' h t u p r = absurd (omega (arith, h.1))
-  apply_same (suc k) ms (x ∷ es) [] (a ∷ as') bs v v' h t u p r = absurd (omega (arith, h.2))
-  apply_same (suc k) ms (x ∷ es) (y ∷ fs) (a ∷ as') [] v v' h t u p r = absurd (omega (arith, h.3))
-  apply_same (suc k) ms (x ∷ es) (y ∷ fs) (a ∷ as') (b ∷ bs) v v' h t u p r =
-      let first : x ≡ y = cc in
-      let rest : take k es ≡ take k fs = cc in
-      let s = sym (text-speed reads x a v t.0) in
-      let s' = sym (text-speed reads' y b v' u.0) in
-      let i = apply_same k ms es fs as' bs (speed_after reads x a v) (speed_after reads' y b v') (omega (arith, h.0), omega (arith, h.1), omega (arith, h.2), omega (arith, h.3)) t.1 u.1 rest
-      (subst₂ (λ w w'. Applies w w' ms (drop k es) (drop k as') (drop k fs) (drop k bs)) s s' r) in
-      (other (text_no_cycle x t.0) first i.0, λ g. (λ _. g.0, i.1 g.1))
-
   -- with marks in front the answers there may differ
   outside_marked : (k : ℕ) (ms : List Bool) (as' bs : List Answer) → AgreeOutside ms (drop k as') (drop k bs) → AgreeOutside (replicate k true ++ ms) as' bs
   outside_marked zero ms as' bs g = g
@@ -130,28 +115,19 @@ module _ (reads reads' : List ℕ → Option ℕ) where
       (λ h. (other h (same-call e f c h) r.0, λ g. (λ _. g.0, r.1 g.1)))
       (cases_Bool (is_cycle e))
 
-  -- in front of these, stretches that were judged alike
-  apply_judged : (k : ℕ) (m : Bool) (t : Bool) (ms : List Bool) (es fs : List Event) (as' bs : List Answer) (v v' : Option ℕ) → Within k es as' fs bs → Texts (take k es) → Texts (take k fs) →
-      Judged t m (take k es) (take k as') (take k fs) (take k bs) → t ≡ true →
-      Applies v v' ms (drop k es) (drop k as') (drop k fs) (drop k bs) → Applies v v' (replicate k m ++ ms) es as' fs bs
-  apply_judged k _ _ ms es fs as' bs v v' h t u (same p) e r = apply_same k ms es fs as' bs v v' h t u p r
-  apply_judged k _ _ ms es fs as' bs v v' h t u (reordered n p) e r = apply_reordered k ms es fs as' bs v v' h t u p.0 p.1 p.2 r
-  apply_judged k _ _ ms es fs as' bs v v' h t u (apart n p) e r = absurd (false≢true e)
-
   -- front by front
   apply_walked : {s : Bool} {ms : List Bool} {es fs : List Event} {as' bs : List Answer} → Walked s ms es as' fs bs → s ≡ true → (v v' : Option ℕ) →
       unequal_speeds (told reads v es as') (told reads' v' fs bs) ≡ 0 → Applies v v' ms es as' fs bs
   apply_walked ended e v v' z = (nothing, λ _. tt)
-  apply_walked (more {s = s} {ms = ms} (one {t} {e} {f} {es} {fs} {a} {b} {as'} {bs} n d) w) is v v' z =
-      let h = and_parts t s is in
+  apply_walked (more {ms = ms} (same {e} {f} {es} {fs} {a} {b} {as'} {bs} q) w) is v v' z =
       let x = speed_after reads e a v in
       let x' = speed_after reads' f b v' in
       let i = none-counted (same_speed x x') (unequal_speeds (told reads x es as') (told reads' x' fs bs)) z in
-      apply_one ms e f es fs a b as' bs v v' (d.0 h.0) (same_speed_is x x' i.0) (apply_walked w h.1 x x' i.1)
-  apply_walked (more {s = s} (uneven k l h t u p q) w) e v v' z = absurd (false≢true e)
-  apply_walked (more {s = s} {ms = ms} (texts k {t} {m} {es} {fs} {as'} {bs} l h p q n j) w) e v v' z =
-      let g = and_parts t s e in
-      apply_judged k m t ms es fs as' bs v v' h p q j g.0 (apply_walked w g.1 v v' (equal_behind k es fs as' bs v v' h p q z))
+      apply_one ms e f es fs a b as' bs v v' q (same_speed_is x x' i.0) (apply_walked w is x x' i.1)
+  apply_walked (more (other_call n t) w) e v v' z = absurd (false≢true e)
+  apply_walked (more {ms = ms} (stretch k {es} {fs} {as'} {bs} l h n s) w) e v v' z =
+      apply_reordered k ms es fs as' bs v v' h.0 h.1 h.3 h.2 h.4 s (apply_walked w e v v' (equal_behind k es fs as' bs v v' h.0 h.1 h.3 z))
+  apply_walked (more (apart k l h t n) w) e v v' z = absurd (false≢true e)
 
 -- lists that are walked and found alike
 pub walked_applies : {s : Bool} {ms : List Bool} {es fs : List Event} {as' bs : List Answer} → Walked s ms es as' fs bs → s ≡ true → LawApplies ms es as' fs bs

@@ -3,7 +3,7 @@ use Rattle.std.proofs.Common.{◌≡◌, false, sym, refl, ap, ◌∙◌}
 use Rattle.std.proofs.lemmas.Bool.{true≢false}
 use Rattle.cab_unit.specs.Events.{Event, Event.cycle, Event.order, Event.press, Event.take}
 use Rattle.compare.specs.Asked.{unblocked}
-use Rattle.bench.specs.Likeness.{is_cycle}
+use Rattle.cab_unit.specs.Events.{is_cycle}
 
 -- without its block a call is a cycle where it was one
 cycle-unblocked : (e : Event) → is_cycle (unblocked e) ≡ is_cycle e

@@ -1,5 +1,6 @@
 -- The counting of answers, row by row.
-use Rattle.std.proofs.Common.{◌≡◌, ℕ, ◌+◌, Bool, true, false, List, ◌∷◌, get_or, drop, None, sym, refl, ap, ◌∙◌, subst, subst₂, ⊎_elim, add-zero, arith}
+use Rattle.std.proofs.Common.{◌≡◌, ℕ, ◌+◌, Bool, true, false, List, [], ◌∷◌, get_or, drop, None, sym, refl, ap, ◌∙◌, subst, subst₂, ⊎_elim, add-zero, arith}
+use Rattle.std.proofs.lemmas.Bool.{true≢false}
 use Rattle.std.proofs.iter.Yields.{fronts}
 use Rattle.std.proofs.lemmas.Iterator.{zips}
 use Rattle.std.proofs.lemmas.List.{drop-drop, get_or-drop}
@@ -61,3 +62,15 @@ none_differ none_right g = refl
 none_differ (marked h r) g = none_differ r g.1
 none_differ (agrees h e r) g = none_differ r g.1
 none_differ (differs h n r) g = absurd (n (g.0 h))
+
+-- and where none differs, they are equal
+outside_none : (ms : List Bool) (as' : List Answer) → AgreeOutside ms as' []
+outside_none ms [] = tt
+outside_none ms (a ∷ as') = tt
+
+pub all_agree : {ms : List Bool} {as' bs : List Answer} {c d : ℕ} → Counted ms as' bs c d → d ≡ 0 → AgreeOutside ms as' bs
+all_agree none_left e = tt
+all_agree (none_right {ms} {as'}) e = outside_none ms as'
+all_agree (marked h r) e = (λ g. absurd (true≢false (sym h ∙ g)), all_agree r e)
+all_agree (agrees h p r) e = (λ _. p, all_agree r e)
+all_agree (differs h n r) e = absurd (omega (arith, e))

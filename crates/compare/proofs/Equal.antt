@@ -1,6 +1,5 @@
--- `==` on calls and on keys decides whether they say the same, and on answers whether they are equal.
-use Rattle.std.proofs.Common.{◌≡◌, Bool, true, false, not, ◌&&◌, ◌==◌, List, [], ◌∷◌, map, Some, None, Option, Decides, sym, refl, ap, ◌∙◌, subst, ap₂, rules}
-use Rattle.std.specs.Cmp.Lexicographic.{pointwise}
+-- `==` on calls decides whether they say the same, and on answers whether they are equal.
+use Rattle.std.proofs.Common.{◌≡◌, Bool, true, false, not, ◌&&◌, ◌==◌, Some, None, Option, Decides, sym, refl, ap, ◌∙◌, rules}
 use Rattle.std.specs.Option.{option_eq}
 use Rattle.std.specs.Cmp.{booleans_Decides}
 use mathlib.Core.Bool.{beq}
@@ -18,9 +17,6 @@ use Rattle.cab_unit.specs.declared.call.Call.{Call}
 use Rattle.cab_unit.specs.Events.{said}
 use Rattle.cab_unit.specs.contracts.call.CallPartialEq.TheImpl.{eq-value as call_eq}
 use Rattle.driver_desk.specs.declared.answer.Answer.{Answer}
-use Rattle.compare.specs.declared.asked.TextKey.{TextKey}
-use Rattle.compare.specs.contracts.asked.TextKeyPartialEq.TheImpl.{eq-value as key_eq}
-use Rattle.compare.specs.Asked.{keyed}
 
 -- what `!=` says where `==` decides
 pub ne_true : {P : Type 0} (r b : Bool) → r ≡ not b → Decides b P → r ≡ true → P → ⊥
@@ -31,22 +27,8 @@ pub ne_false : {P : Type 0} (r b : Bool) → r ≡ not b → Decides b P → r �
 ne_false r true e d h = d.0 refl
 ne_false r false e d h = absurd (true≢false (sym e ∙ h))
 
--- `==` on slices, by what the elements are mapped to
-module _ {X Y : Type 0} (f : X → Y) (E : X → X → Bool) (each : (x y : X) → Decides (E x y) (f x ≡ f y)) where
-  places_decide : (xs ys : List X) → Decides (pointwise E xs ys) (map f xs ≡ map f ys)
-  places_decide [] [] = (λ _. refl, λ _. refl)
-  places_decide [] (y ∷ ys) = (λ h. absurd (false≢true h), λ e. cc)
-  places_decide (x ∷ xs) [] = (λ h. absurd (false≢true h), λ e. cc)
-  places_decide (x ∷ xs) (y ∷ ys) = Decides-like (E x y && pointwise E xs ys) (λ p. ap₂ ◌∷◌ p.0 p.1) (λ e. (cc, cc)) (Decides-and _ _ (each x y) (places_decide xs ys))
-
-  pub slices_decide : (xs ys : List X) (r : Bool) → r ≡ pointwise E xs ys → Decides r (map f xs ≡ map f ys)
-  slices_decide xs ys r e = subst (λ b. Decides b (map f xs ≡ map f ys)) (sym e) (places_decide xs ys)
-
 pub call_decides : (c d : Call) → Decides (call_eq.it c d) (said c ≡ said d)
 call_decides c d = search rules
-
-pub key_decides : (k l : TextKey) → Decides (key_eq.it k l) (keyed k ≡ keyed l)
-key_decides k l = search rules
 
 -- at an enum with no fields
 bare_decides : (D : Declared) → Bare D.parts → (a b : D.D) → Decides (sameb D a b) (a ≡ b)

@@ -3,6 +3,10 @@ pub mod Counting
 pub mod Asking
 pub mod Equal
 pub mod Shuffling
+pub mod Tallies
+pub mod Events
 pub mod Keying
+pub mod Accounting
 pub mod Applying
+pub mod Deciding
 pub mod Walking

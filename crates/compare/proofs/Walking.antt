@@ -1,17 +1,18 @@
 -- Two runs walked front by front.
-use Rattle.std.proofs.Common.{◌≡◌, ℕ, suc, ◌+◌, ◌-◌, ◌<◌, ◌≤◌, Bool, true, false, cond, ◌&&◌, List, [], ◌∷◌, ◌++◌, map, length, get_or, take, drop, replicate, Some, None, Option, MatchOption, Bor, Decides, sym, refl, ap, ◌∙◌, subst, ap₂, subst₂, arith}
-use Rattle.std.specs.List.{prefix_len, zip}
-use Rattle.std.specs.Slice.{IsItemAt}
-use Rattle.std.proofs.lemmas.List.{drop_all, drop_more, drop-map, length-drop, append_assoc, append-nil, take_all, nil_from_length}
-use Rattle.std.proofs.lemmas.Bool.{and_parts, false≢true}
+use Rattle.std.proofs.Common.{◌≡◌, ℕ, zero, suc, ◌+◌, ◌-◌, ◌<◌, ◌≤◌, Bool, true, false, not, ◌&&◌, List, [], ◌∷◌, ◌++◌, map, length, get_or, take, drop, replicate, is_some, Some, None, Option, Decides, sym, refl, ap, ◌∙◌, subst, ap₂, subst₂, ⊎_elim, arith}
+use Rattle.std.proofs.lemmas.List.{length-drop, append_assoc, append-nil, take_all, nil_from_length}
+use Rattle.std.proofs.lemmas.Bool.{and_parts, false≢true, cases_lt}
 use Rattle.cab_unit.specs.declared.call.Call.{Call}
 use Rattle.cab_unit.specs.Events.{Event, said}
 use Rattle.driver_desk.specs.declared.answer.Answer.{Answer}
 use Rattle.compare.specs.Asked.{unblocked}
 use Rattle.compare.specs.Compared.{LawApplies}
-use Rattle.bench.specs.Likeness.{is_text}
-use Rattle.compare.specs.Walked.{Texts, text_next, Within, Front, Front.one, Front.uneven, Front.texts, Walked, Walked.ended, Walked.more, AsLong, shortest, Compared, Compared.whole, Compared.cut}
+use Rattle.driver_desk.specs.Answers.{is_accepted}
+use Rattle.cab_unit.specs.Events.{is_text}
+use Rattle.ordering.specs.Shuffle.{Shuffle}
+use Rattle.compare.specs.Walked.{Texts, Accepted, Loose, Apart, text_next, Within, Front, Front.same, Front.other, Front.stretch, Front.apart, Walked, Walked.ended, Walked.more, AsLong, shortest, Compared, Compared.whole, Compared.cut}
 use Rattle.compare.proofs.Applying.{walked_applies}
+use Rattle.compare.proofs.Shuffling.{shuffle_single}
 
 -- laws of &&
 and_none : (b : Bool) → (b && false) ≡ false
@@ -31,47 +32,104 @@ pub same_rows : (P : List Event → List Answer → List Event → List Answer �
     es ≡ es' → as' ≡ as'' → fs ≡ fs' → bs ≡ bs' → P es as' fs bs → P es' as'' fs' bs'
 same_rows P {es' = es'} {fs' = fs'} {as' = as'} {bs = bs} p q r s h = subst₂ (λ x y. P es' x fs' y) q s (subst₂ (λ x y. P x as' y bs) p r h)
 
--- of a pair of calls, whether both are texts
-abbrev pub both_texts : Call × Call → Bool
-both_texts p = is_text (said p.0) && is_text (said p.1)
+-- what stands at a place of a run
+pub text_found : (ks : List Call) (as' : List Answer) (i : ℕ) (k : Call) (a : Answer) → i < length ks → i < length as' → ((d : Call) → k ≡ get_or ks i d) → ((d : Answer) → a ≡ get_or as' i d) →
+    text_next (drop i (map said ks)) (drop i as') ≡ (is_text (said k) && is_accepted a)
+text_found [] as' i k a h g p q = absurd (omega (arith, h))
+text_found (l ∷ ks) [] i k a h g p q = absurd (omega (arith, g))
+text_found (l ∷ ks) (b ∷ as') zero k a h g p q = ap₂ (λ (x : Call) (y : Answer). is_text (said x) && is_accepted y) (sym (p k)) (sym (q a))
+text_found (l ∷ ks) (b ∷ as') (suc i) k a h g p q = text_found ks as' i k a (omega (arith, h)) (omega (arith, g)) p q
 
--- of two lists as many are texts as both begin with
-abbrev pub Ahead : ℕ → List Event → List Event → Type 0
-Ahead n es fs = (Texts (take n es) × Texts (take n fs)) × ((text_next (drop n es) && text_next (drop n fs)) ≡ false)
+-- the call at a place stands behind those before it
+pub take_found : (ks : List Call) (i : ℕ) (k : Call) → i < length ks → ((d : Call) → k ≡ get_or ks i d) → take (suc i) (map said ks) ≡ take i (map said ks) ++ said k ∷ []
+take_found [] i k h p = absurd (omega (arith, h))
+take_found (l ∷ ks) zero k h p = ap (λ x. said x ∷ []) (sym (p k))
+take_found (l ∷ ks) (suc i) k h p = ap (λ es. said l ∷ es) (take_found ks i k (omega (arith, h)) p)
 
-pub texts_ahead : (ks ls : List Call) → Ahead (prefix_len both_texts (zip ks ls)) (map said ks) (map said ls)
-texts_ahead [] ls = ((tt, tt), refl)
-texts_ahead (k ∷ ks) [] = ((tt, tt), and_none (is_text (said k)))
-texts_ahead (k ∷ ks) (l ∷ ls) =
-    let n = prefix_len both_texts (zip ks ls) in
-    let more : suc n ≡ 1 + n = omega arith in
-    subst (λ m. Ahead (cond (both_texts (k, l)) m 0) (said k ∷ map said ks) (said l ∷ map said ls)) more (here (both_texts (k, l)) refl n (texts_ahead ks ls))
+-- nothing follows where no answer does
+no_text : (es : List Event) → text_next es [] ≡ false
+no_text [] = refl
+no_text (e ∷ es) = refl
+
+-- an accepted text more
+abbrev Longer : ℕ → List Event → List Answer → Type 0
+Longer k es as' = (k ≤ length es) × (k ≤ length as') × Texts (take k es) × Accepted (take k as')
+
+accepted_none : (a : Answer) → is_accepted a ≡ true → a.outcome ≡ None
+accepted_none a h = here a.outcome h
   where
-    here : (b : Bool) → both_texts (k, l) ≡ b → (n : ℕ) → Ahead n (map said ks) (map said ls) → Ahead (cond b (suc n) 0) (said k ∷ map said ks) (said l ∷ map said ls)
-    here false e n h = ((tt, tt), e)
-    here true e n h = let both = and_parts _ _ e in (((both.0, h.0.0), (both.1, h.0.1)), h.1)
+    here : {X : Type 0} (o : Option X) → not (is_some o) ≡ true → o ≡ None
+    here None e = refl
+    here (Some x) e = absurd (false≢true e)
 
--- whether a text stands at a place
-pub text_at : (ks : List Call) (i : ℕ) (o : Option (Bor Call)) (r : Bool) → IsItemAt ks i o → MatchOption o (r ≡ false) (λ x. r ≡ is_text (said x.now)) →
-    r ≡ text_next (drop i (map said ks))
-text_at ks i None r at m = m ∙ ap text_next (sym (drop-map said i ks ∙ ap (map said) (drop_all i ks at.3)))
-text_at ks i (Some x) r at m =
-    m ∙ ap (λ k. is_text (said k)) (at.4 (omega arith) x.now) ∙ ap text_next (sym (drop-map said i ks ∙ ap (map said) (drop_more ks i x.now at.3.0)))
+longer : (k : ℕ) (es : List Event) (as' : List Answer) → Texts (take k es) → Accepted (take k as') → text_next (drop k es) (drop k as') ≡ true → Longer (suc k) es as'
+longer zero [] as' t a h = absurd (false≢true h)
+longer zero (e ∷ es) [] t a h = absurd (false≢true h)
+longer zero (e ∷ es) (x ∷ as') t a h =
+    let l = and_parts (is_text e) (is_accepted x) h in
+    (omega arith, omega arith, (l.0, tt), (accepted_none x l.1, tt))
+longer (suc k) [] as' t a h = absurd (false≢true h)
+longer (suc k) (e ∷ es) [] t a h = absurd (false≢true (sym (no_text (drop k es)) ∙ h))
+longer (suc k) (e ∷ es) (x ∷ as') t a h =
+    let i = longer k es as' t.1 a.1 h in
+    (omega (arith, i.0), omega (arith, i.1), (t.0, i.2), (a.0, i.3))
+
+pub one_more : (n : ℕ) → suc n ≡ n + 1
+one_more n = omega arith
+
+-- of both runs
+pub looser : (k : ℕ) (es fs : List Event) (as' bs : List Answer) → Loose k es as' fs bs → text_next (drop k es) (drop k as') ≡ true → text_next (drop k fs) (drop k bs) ≡ true → Loose (k + 1) es as' fs bs
+looser k es fs as' bs l h g =
+    let i = longer k es as' l.1 l.2 h in
+    let j = longer k fs bs l.3 l.4 g in
+    subst (λ n. Loose n es as' fs bs) (one_more k) ((i.0, i.1, j.0, j.1), i.2, i.3, j.2, j.3)
+
+-- at no place, nor here
+pub apart_more : (k : ℕ) (es fs : List Event) → Apart (suc k) es fs → (Shuffle (take (k + 1) es) (take (k + 1) fs) → ⊥) → Apart (suc (k + 1)) es fs
+apart_more k es fs n h j l m s =
+    ⊎_elim
+    (λ (b : j < suc k). n j l b s)
+    (λ (b : suc k ≤ j). let e : j ≡ k + 1 = omega arith in h (subst (λ i. Shuffle (take i es) (take i fs)) e s))
+    (cases_lt j (suc k))
+
+pub apart_here : (k : ℕ) (es fs : List Event) → Apart (suc k) es fs → Apart (k + 1) es fs
+apart_here k es fs n = subst (λ i. Apart i es fs) (one_more k) n
 
 -- one call of each in front
-pub front_one : {t : Bool} (ks ls : List Call) (as' bs : List Answer) (d e : Call) → 0 < length (map said ks) → AsLong (map said ks) as' (map said ls) bs →
-    (text_next (map said ks) && text_next (map said ls)) ≡ false → Decides t (unblocked (said (get_or ks 0 d)) ≡ unblocked (said (get_or ls 0 e))) → Front t false 1 (map said ks) as' (map said ls) bs
-front_one [] ls as' bs d e h l n s = absurd (omega (arith, h))
-front_one (k ∷ ks) [] as' bs d e h l n s = absurd (omega (arith, l.0))
-front_one (k ∷ ks) (m ∷ ls) [] bs d e h l n s = absurd (omega (arith, l.1))
-front_one (k ∷ ks) (m ∷ ls) (a ∷ as') [] d e h l n s = absurd (omega (arith, l.2))
-front_one (k ∷ ks) (m ∷ ls) (a ∷ as') (b ∷ bs) d e h l n s = one n s
+pub front_same : (ks ls : List Call) (as' bs : List Answer) (d e : Call) → 0 < length (map said ks) → AsLong (map said ks) as' (map said ls) bs →
+    unblocked (said (get_or ks 0 d)) ≡ unblocked (said (get_or ls 0 e)) → Front true false 1 (map said ks) as' (map said ls) bs
+front_same [] ls as' bs d e h l n = absurd (omega (arith, h))
+front_same (k ∷ ks) [] as' bs d e h l n = absurd (omega (arith, l.0))
+front_same (k ∷ ks) (m ∷ ls) [] bs d e h l n = absurd (omega (arith, l.1))
+front_same (k ∷ ks) (m ∷ ls) (a ∷ as') [] d e h l n = absurd (omega (arith, l.2))
+front_same (k ∷ ks) (m ∷ ls) (a ∷ as') (b ∷ bs) d e h l n = same n
+
+pub front_other : (ks ls : List Call) (as' bs : List Answer) (d e : Call) → 0 < length (map said ks) → AsLong (map said ks) as' (map said ls) bs →
+    (unblocked (said (get_or ks 0 d)) ≡ unblocked (said (get_or ls 0 e)) → ⊥) → (text_next (map said ks) as' && text_next (map said ls) bs) ≡ false → Front false false 1 (map said ks) as' (map said ls) bs
+front_other [] ls as' bs d e h l n t = absurd (omega (arith, h))
+front_other (k ∷ ks) [] as' bs d e h l n t = absurd (omega (arith, l.0))
+front_other (k ∷ ks) (m ∷ ls) [] bs d e h l n t = absurd (omega (arith, l.1))
+front_other (k ∷ ks) (m ∷ ls) (a ∷ as') [] d e h l n t = absurd (omega (arith, l.2))
+front_other (k ∷ ks) (m ∷ ls) (a ∷ as') (b ∷ bs) d e h l n t = other n t
+
+-- of the same elements where there is one only, it is that
+single : {X : Type 0} (x y : X) → Shuffle (x ∷ []) (y ∷ []) → x ≡ y
+single x y s = let e : y ∷ [] ≡ x ∷ [] = shuffle_single s x refl in cc
+
+-- first calls that differ are no stretch
+pub front_apart : (ks ls : List Call) (d e : Call) → 0 < length (map said ks) → 0 < length (map said ls) → (unblocked (said (get_or ks 0 d)) ≡ unblocked (said (get_or ls 0 e)) → ⊥) → Apart 2 (map said ks) (map said ls)
+front_apart [] ls d e h l n j p q s = absurd (omega (arith, h))
+front_apart (k ∷ ks) [] d e h l n j p q s = absurd (omega (arith, l))
+front_apart (k ∷ ks) (m ∷ ls) d e h l n zero p q s = absurd (omega (arith, p))
+front_apart (k ∷ ks) (m ∷ ls) d e h l n (suc zero) p q s = n (ap unblocked (single (said k) (said m) s))
+front_apart (k ∷ ks) (m ∷ ls) d e h l n (suc (suc j)) p q s = absurd (omega (arith, q))
 
 -- a front is not empty, and lies within the lists
 pub front_within : {t m : Bool} {k : ℕ} {es fs : List Event} {as' bs : List Answer} → Front t m k es as' fs bs → (0 < k) × Within k es as' fs bs
-front_within (one n d) = (omega arith, (omega arith, omega arith, omega arith, omega arith))
-front_within (uneven k l h t u m n) = (l, h)
-front_within (texts k l h t u n j) = (l, h)
+front_within (same q) = (omega arith, (omega arith, omega arith, omega arith, omega arith))
+front_within (other n t) = (omega arith, (omega arith, omega arith, omega arith, omega arith))
+front_within (stretch k l h n s) = (omega (arith, l), h.0)
+front_within (apart k l h t n) = (l, h.0)
 
 -- what is walked of the rests, behind what was found so far, is walked of all
 abbrev pub Walks : List Event → List Answer → List Event → List Answer → List Event → List Answer → List Event → List Answer → Bool → List Bool → Type 0

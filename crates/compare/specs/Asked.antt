@@ -1,5 +1,8 @@
 -- When two calls ask the same.
-use Rattle.std.specs.Prelude.{List, [], map, Some, None, Option}
+use Rattle.std.specs.Prelude.{ℕ, Bool, List, [], map, Some, None, Option}
+use Rattle.std.specs.Cmp.Lexicographic.{slice_cmp}
+use Rattle.std.specs.Ordering.{ordering_then, nat_cmp, bool_cmp}
+use Rattle.std.specs.declared.cmp.Ordering.{Ordering}
 use Rattle.telegram.specs.Format.{OrderValue.text}
 use Rattle.telegram.specs.declared.orders.Order.{Order as OrderGiven}
 use Rattle.telegram.specs.declared.orders.Order.TheVariants.{Authority, Level, Text, TextWithdrawal, EmergencyStop, Sign, Permission}
@@ -39,3 +42,17 @@ text_key (Cycle block) = None
 text_key (Order o) = order_key o
 text_key (Press n) = None
 text_key (Take t) = None
+
+-- a text by its number, whether it wants to be acknowledged, and its bytes
+abbrev pub Words : Type 0
+Words = ℕ × (Bool × List ℕ)
+
+abbrev pub words : TextKey → Words
+words k = (k.number, (k.wanted, k.text.now))
+
+-- the order in which keys are sorted: by the number, then false before true, then by the bytes
+abbrev pub by_words : Words → Words → Ordering
+by_words x y = ordering_then (nat_cmp x.0 y.0) (ordering_then (bool_cmp x.1.0 y.1.0) (slice_cmp nat_cmp x.1.1 y.1.1))
+
+abbrev pub by_key : TextKey → TextKey → Ordering
+by_key k l = by_words (words k) (words l)

@@ -1,3 +1,4 @@
 pub mod Asked
+pub mod Account
 pub mod Walked
 pub mod Compared

@@ -1,13 +1,15 @@
--- When two lists of calls, with their answers, are the same up to blocks and the order of neighbouring texts,
+-- When two lists of calls, with their answers, are the same up to blocks and the order of neighbouring accepted texts,
 -- and which calls lie in a stretch that came in another order.
-use Rattle.std.specs.Prelude.{◌≡◌, ℕ, ◌<◌, ◌≤◌, min, Bool, true, false, ◌&&◌, ◌||◌, List, [], ◌∷◌, ◌++◌, length, take, drop, replicate, None, Decides, ◌≢◌}
+use Rattle.std.specs.Prelude.{◌≡◌, ℕ, suc, ◌<◌, ◌≤◌, min, Bool, true, false, ◌&&◌, List, [], ◌∷◌, ◌++◌, length, take, drop, replicate, None, ◌≢◌}
 use Rattle.std.specs.List.{AllByRecursion}
 use Rattle.cab_unit.specs.Events.{Event}
 use Rattle.driver_desk.specs.declared.answer.Answer.{Answer}
 use Rattle.compare.specs.Asked.{unblocked}
 use Rattle.compare.specs.declared.stretches.Stretch.{Stretch}
 use Rattle.compare.specs.declared.stretches.Stretch.TheVariants.{Same, Reordered, Other}
-use Rattle.bench.specs.Likeness.{Shuffle, is_text}
+use Rattle.driver_desk.specs.Answers.{is_accepted}
+use Rattle.cab_unit.specs.Events.{is_text}
+use Rattle.ordering.specs.Shuffle.{Shuffle}
 
 abbrev pub Texts : List Event → Type 0
 Texts es = AllByRecursion (λ e. is_text e ≡ true) es
@@ -15,14 +17,11 @@ Texts es = AllByRecursion (λ e. is_text e ≡ true) es
 abbrev pub Accepted : List Answer → Type 0
 Accepted as' = AllByRecursion (λ a. a.outcome ≡ None) as'
 
--- the list goes on with a text
-abbrev pub text_next : List Event → Bool
-text_next [] = false
-text_next (e ∷ es) = is_text e
-
--- all were accepted, and the same texts came in both
-abbrev pub Reordering : List Event → List Answer → List Event → List Answer → Type 0
-Reordering es as' fs bs = Accepted as' × Accepted bs × Shuffle es fs
+-- the run goes on with a text that was accepted
+abbrev pub text_next : List Event → List Answer → Bool
+text_next [] as' = false
+text_next (e ∷ es) [] = false
+text_next (e ∷ es) (a ∷ as') = is_text e && is_accepted a
 
 -- whether stretches that compare so are alike, and whether they are marked
 abbrev pub is_alike : Stretch → Bool
@@ -35,24 +34,27 @@ is_reordered Same = false
 is_reordered Reordered = true
 is_reordered Other = false
 
--- two stretches of texts: whether they are alike, and whether they are marked
-pub data Judged : Bool → Bool → List Event → List Answer → List Event → List Answer → Type 0 where
-  same : {es fs : List Event} {as' bs : List Answer} → es ≡ fs → Judged true false es as' fs bs
-  reordered : {es fs : List Event} {as' bs : List Answer} → (es ≢ fs) → Reordering es as' fs bs → Judged true true es as' fs bs
-  apart : {es fs : List Event} {as' bs : List Answer} → (es ≢ fs) → (Reordering es as' fs bs → ⊥) → Judged false false es as' fs bs
-
 abbrev pub Within : ℕ → List Event → List Answer → List Event → List Answer → Type 0
 Within k es as' fs bs = (k ≤ length es) × (k ≤ length as') × (k ≤ length fs) × (k ≤ length bs)
 
--- the first calls of two lists: one call of each that are not both texts, or the stretches of texts that both begin with.
+-- the first k calls of both are texts that were accepted
+abbrev pub Loose : ℕ → List Event → List Answer → List Event → List Answer → Type 0
+Loose k es as' fs bs = Within k es as' fs bs × Texts (take k es) × Accepted (take k as') × Texts (take k fs) × Accepted (take k bs)
+
+-- at no place before the k-th the same texts came so far
+abbrev pub Apart : ℕ → List Event → List Event → Type 0
+Apart k es fs = (j : ℕ) → 0 < j → j < k → Shuffle (take j es) (take j fs) → ⊥
+
+-- the first calls of two lists: one call of each, the shortest stretch of accepted texts in which the same texts came,
+-- or, where there is none, all accepted texts that both begin with.
 -- Whether they are alike, whether they are marked, and how many they are
 pub data Front : Bool → Bool → ℕ → List Event → List Answer → List Event → List Answer → Type 0 where
-  one : {t : Bool} {e f : Event} {es fs : List Event} {a b : Answer} {as' bs : List Answer} →
-      (is_text e && is_text f) ≡ false → Decides t (unblocked e ≡ unblocked f) → Front t false 1 (e ∷ es) (a ∷ as') (f ∷ fs) (b ∷ bs)
-  uneven : (k : ℕ) {es fs : List Event} {as' bs : List Answer} → 0 < k → Within k es as' fs bs → Texts (take k es) → Texts (take k fs) →
-      (text_next (drop k es) && text_next (drop k fs)) ≡ false → (text_next (drop k es) || text_next (drop k fs)) ≡ true → Front false false k es as' fs bs
-  texts : (k : ℕ) {t m : Bool} {es fs : List Event} {as' bs : List Answer} → 0 < k → Within k es as' fs bs → Texts (take k es) → Texts (take k fs) →
-      (text_next (drop k es) || text_next (drop k fs)) ≡ false → Judged t m (take k es) (take k as') (take k fs) (take k bs) → Front t m k es as' fs bs
+  same : {e f : Event} {es fs : List Event} {a b : Answer} {as' bs : List Answer} → unblocked e ≡ unblocked f → Front true false 1 (e ∷ es) (a ∷ as') (f ∷ fs) (b ∷ bs)
+  other : {e f : Event} {es fs : List Event} {a b : Answer} {as' bs : List Answer} → (unblocked e ≢ unblocked f) →
+      (text_next (e ∷ es) (a ∷ as') && text_next (f ∷ fs) (b ∷ bs)) ≡ false → Front false false 1 (e ∷ es) (a ∷ as') (f ∷ fs) (b ∷ bs)
+  stretch : (k : ℕ) {es fs : List Event} {as' bs : List Answer} → 1 < k → Loose k es as' fs bs → Apart k es fs → Shuffle (take k es) (take k fs) → Front true true k es as' fs bs
+  apart : (k : ℕ) {es fs : List Event} {as' bs : List Answer} → 0 < k → Loose k es as' fs bs →
+      (text_next (drop k es) (drop k as') && text_next (drop k fs) (drop k bs)) ≡ false → Apart (suc k) es fs → Front false false k es as' fs bs
 
 -- the whole of two lists with as many answers, front by front
 pub data Walked : Bool → List Bool → List Event → List Answer → List Event → List Answer → Type 0 where

@@ -1,7 +1,7 @@
 ghost use Rattle.std.specs.Prelude.{◌≡◌, Decides};
 ghost use Rattle.cab_unit.specs.Events.{said};
 ghost use Rattle.compare.specs.Asked.{text_key, unblocked};
-ghost use Rattle.bench.specs.Likeness.{is_text};
+ghost use Rattle.cab_unit.specs.Events.{is_text};
 
 use cab_unit::Call;
 use telegram::Order;

@@ -1,14 +1,14 @@
-ghost use Rattle.std.specs.Prelude.{◌≡◌, ◌<◌, ◌≤◌, true, false, ◌&&◌, map, length, take, drop, IfOk, IfErr, Decides};
-ghost use Rattle.cab_unit.specs.Events.{said};
-ghost use Rattle.compare.specs.Asked.{asked};
-ghost use Rattle.compare.specs.Compared.{LawApplies};
-ghost use Rattle.compare.specs.Walked.{AsLong, Compared, Front, Texts, Walked, is_alike, is_reordered, shortest, text_next};
+ghost use Rattle.std.specs.Prelude.{◌≡◌, ◌<◌, ◌+◌, true, ◌&&◌, [], ◌∷◌, ◌++◌, length, take, drop, is_some, IfSome, IfOk, IfErr, Decides};
+ghost use Rattle.compare.specs.Asked.{asked, keyed};
+ghost use Rattle.compare.specs.Compared.{LawDecided};
+ghost use Rattle.compare.specs.Walked.{Apart, AsLong, Compared, Front, Walked, is_alike, is_reordered, shortest, text_next};
 
-use crate::asked::{is_text, same_asked};
+use crate::account::{Surplus, enter};
+use crate::asked::{TextKey, same_asked, text_key};
 use crate::run::Run;
-use crate::stretches::{Stretch, judge_texts};
-use cab_unit::Call;
+use crate::stretches::Stretch;
 use std::alloc::{AllocError, Global};
+use std::collections::BTreeMap;
 
 // Whether two lists that were run are the same up to blocks and the order of neighbouring accepted texts,
 // and which calls lie in a stretch that came in another order.
@@ -18,23 +18,15 @@ pub struct Likeness {
     pub reordered: Vec<bool>,
 }
 
-// How many texts both lists begin with.
-fn texts_ahead(calls: &[Call<'_>], others: &[Call<'_>]) -> usize
-    ensures within { (result ≤ length (map said calls.now)) × (result ≤ length (map said others.now)) }
-    ensures texts { Texts (take result (map said calls.now)) × Texts (take result (map said others.now)) }
-    ensures most { (text_next (drop result (map said calls.now)) && text_next (drop result (map said others.now))) ≡ false }
+// The text at this place of a run, where one stands there that was accepted.
+fn text_at<'a>(run: Run<'a>, place: usize) -> Option<TextKey<'a>>
+    ensures found { is_some result ≡ text_next (drop place (asked run.entry)) (drop place run.entry.answers.now) }
+    ensures key { IfSome result (λ k. take (place + 1) (asked run.entry) ≡ take place (asked run.entry) ++ (keyed k ∷ [])) }
 {
-    calls
-        .iter()
-        .zip(others)
-        .take_while(|(call, other)| is_text(call) && is_text(other))
-        .count()
-}
-
-fn text_next(calls: &[Call<'_>], from: usize) -> bool
-    ensures { result ≡ text_next (drop from (map said calls.now)) }
-{
-    calls.get(from).is_some_and(is_text)
+    match (run.calls.get(place), run.answers.get(place)) {
+        (Some(call), Some(answer)) if answer.outcome.is_none() => text_key(call),
+        _ => None,
+    }
 }
 
 // The first calls of two runs: how many, and how they compare.
@@ -44,28 +36,50 @@ struct Step {
     stretch: Stretch,
 }
 
-// One call of each run, or the texts that both begin with.
+// The shortest stretch of accepted texts in which the same texts came, or all that both begin with.
+fn stretch_ahead(heap: Global, run: Run<'_>, other: Run<'_>) -> Result<Step, AllocError>
+    requires long { AsLong (asked run) run.answers.now (asked other) other.answers.now }
+    requires texts { (text_next (asked run) run.answers.now && text_next (asked other) other.answers.now) ≡ true }
+    requires differ { Apart 2 (asked run) (asked other) }
+    ensures { IfOk result (λ s. Front (is_alike s.stretch) (is_reordered s.stretch) s.length (asked run.entry) run.entry.answers.now (asked other.entry) other.entry.answers.now) }
+{
+    let mut account = BTreeMap::new(heap);
+    let mut length: usize = 0;
+    while let (Some(key), Some(other_key)) = (text_at(run, length), text_at(other, length)) {
+        length += 1;
+        enter(&mut account, key, Surplus { left: 1, right: 0 })?;
+        enter(&mut account, other_key, Surplus { left: 0, right: 1 })?;
+        if account.is_empty() {
+            return Ok(Step {
+                length,
+                stretch: Stretch::Reordered,
+            });
+        }
+    }
+    Ok(Step {
+        length,
+        stretch: Stretch::Other,
+    })
+}
+
+// One call of each run, or the accepted texts that both begin with.
 fn compare_front(heap: Global, run: Run<'_>, other: Run<'_>) -> Result<Step, AllocError>
     requires { (0 < length (asked run)) × AsLong (asked run) run.answers.now (asked other) other.answers.now }
     ensures { IfOk result (λ s. Front (is_alike s.stretch) (is_reordered s.stretch) s.length (asked run.entry) run.entry.answers.now (asked other.entry) other.entry.answers.now) }
 {
-    let length = texts_ahead(run.calls, other.calls);
-    if length == 0 {
-        let stretch = if same_asked(&run.calls[0], &other.calls[0]) {
-            Stretch::Same
-        } else {
-            Stretch::Other
-        };
-        return Ok(Step { length: 1, stretch });
-    }
-    if text_next(run.calls, length) || text_next(other.calls, length) {
+    if same_asked(&run.calls[0], &other.calls[0]) {
         return Ok(Step {
-            length,
+            length: 1,
+            stretch: Stretch::Same,
+        });
+    }
+    if text_at(run, 0).is_none() || text_at(other, 0).is_none() {
+        return Ok(Step {
+            length: 1,
             stretch: Stretch::Other,
         });
     }
-    let stretch = judge_texts(heap, run.cut(length), other.cut(length))?;
-    Ok(Step { length, stretch })
+    stretch_ahead(heap, run, other)
 }
 
 // Lists with as many answers, front by front.
@@ -102,7 +116,7 @@ pub(crate) fn compare_lists(
     other: Run<'_>,
 ) -> Result<Likeness, AllocError>
     ensures value { IfOk result (λ l. Compared l.alike l.reordered.items (asked run.entry) run.entry.answers.now (asked other.entry) other.entry.answers.now) }
-    ensures law { IfOk result (λ l. (l.alike ≡ true → LawApplies l.reordered.items (asked run.entry) run.entry.answers.now (asked other.entry) other.entry.answers.now)) }
+    ensures law { IfOk result (λ l. LawDecided l.alike l.reordered.items (asked run.entry) run.entry.answers.now (asked other.entry) other.entry.answers.now) }
     ensures memory { IfErr result (λ _. 0 < shortest (asked run.entry) run.entry.answers.now (asked other.entry) other.entry.answers.now) }
 {
     let n = run.len().min(other.len());

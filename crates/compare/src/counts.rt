@@ -1,4 +1,4 @@
-ghost use Rattle.std.specs.Prelude.{◌≡◌};
+ghost use Rattle.std.specs.Prelude.{◌≡◌, ◌↔◌};
 ghost use Rattle.compare.specs.Compared.{AgreeOutside, Counted};
 
 use driver_desk::Answer;
@@ -17,7 +17,7 @@ pub(crate) fn count_answers(
     reordered: &[bool],
 ) -> Counts
     ensures value { Counted reordered.now answers.now other_answers.now result.compared result.differing }
-    ensures agreeing { AgreeOutside reordered.now answers.now other_answers.now → result.differing ≡ 0 }
+    ensures agreeing { (result.differing ≡ 0) ↔ AgreeOutside reordered.now answers.now other_answers.now }
 {
     let mut compared: usize = 0;
     let mut differing: usize = 0;

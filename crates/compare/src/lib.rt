@@ -1,6 +1,7 @@
 // What two runs have alike: the calls, the speeds, the answers.
 #![tactic(auto)]
 
+mod account;
 mod asked;
 mod compare;
 mod counts;

@@ -1,6 +1,6 @@
 ghost use Rattle.std.specs.Prelude.{◌≡◌, ◌<◌, true, IfOk, IfErr};
 ghost use Rattle.compare.specs.Asked.{asked};
-ghost use Rattle.compare.specs.Compared.{Counted, RunsAlike, unequal_speeds};
+ghost use Rattle.compare.specs.Compared.{Answered, Counted, RunsAlike, RunsFound, unequal_speeds};
 ghost use Rattle.bench.specs.Likeness.{told};
 ghost use Rattle.compare.specs.Walked.{Compared, shortest};
 
@@ -31,6 +31,7 @@ pub fn compare_runs<E: TrainEnd + Drop, F: TrainEnd + Drop>(
     ensures speeds { IfOk result (λ v. v.unequal ≡ unequal_speeds (told E.reading (E.speed_of one) (asked run.entry) run.entry.answers.now) (told F.reading (F.speed_of other) (asked other_run.entry) other_run.entry.answers.now)) }
     ensures counts { IfOk result (λ v. Counted v.likeness.reordered.items run.entry.answers.now other_run.entry.answers.now v.counts.compared v.counts.differing) }
     ensures law { IfOk result (λ v. (v.likeness.alike ≡ true → v.unequal ≡ 0 → RunsAlike E.reading (E.speed_of one) (asked run.entry) run.entry.answers.now F.reading (F.speed_of other) (asked other_run.entry) other_run.entry.answers.now v.counts.differing)) }
+    ensures found { IfOk result (λ v. (Answered (asked run.entry) run.entry.answers.now (asked other_run.entry) other_run.entry.answers.now → RunsFound E.reading (E.speed_of one) (asked run.entry) run.entry.answers.now F.reading (F.speed_of other) (asked other_run.entry) other_run.entry.answers.now v.likeness.alike v.unequal v.counts.differing)) }
     ensures memory { IfErr result (λ _. 0 < shortest (asked run.entry) run.entry.answers.now (asked other_run.entry) other_run.entry.answers.now) }
 {
     let likeness = compare_lists(heap, run, other_run)?;

@@ -4,3 +4,4 @@ pub mod Requests
 pub mod Needing
 pub mod Records
 pub mod Words
+pub mod Answers

@@ -150,13 +150,37 @@ const RUNS: &[(
     ),
     // texts in the same order, one list refused
     (("12", "yy"), ("12", "nn"), true, (0, 2, 2), &[false, false]),
-    // a stretch that is longer in one list
+    // a stretch, and a text beside a press
     (
         ("12p", "yyy"),
         ("211", "yyy"),
         false,
-        (0, 3, 0),
-        &[false, false, false],
+        (0, 1, 0),
+        &[true, true, false],
+    ),
+    // a stretch, and the same texts again, one of them refused
+    (
+        ("1212", "yyyn"),
+        ("2112", "yyyn"),
+        true,
+        (0, 2, 0),
+        &[true, true, false, false],
+    ),
+    // a stretch that the same texts do not end, and one in it
+    (
+        ("112p", "yyyy"),
+        ("211p", "yyyy"),
+        true,
+        (0, 1, 0),
+        &[true, true, true, false],
+    ),
+    // two stretches side by side, and a text that came in one of the lists alone
+    (
+        ("12211", "yyyyy"),
+        ("21122", "yyyyy"),
+        false,
+        (0, 1, 0),
+        &[true, true, true, true, false],
     ),
     // answers past the marks are compared too
     (("p", "yy"), ("p", "yn"), false, (0, 2, 1), &[false]),

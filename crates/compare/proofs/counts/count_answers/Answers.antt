@@ -1,6 +1,6 @@
 use Rattle.std.proofs.Common.{rules, ◌≡◌, false, length, get_or, None, refl, ap, ◌∙◌, arith}
 use Rattle.std.specs.Iterator.Adapters.{enumerate_count, enumerate_source}
-use Rattle.compare.proofs.Counting.{count_marked, count_agrees, count_differs, count_past, none_differ}
+use Rattle.compare.proofs.Counting.{count_marked, count_agrees, count_differs, count_past, none_differ, all_agree}
 use Rattle.compare.proofs.Equal.{answers_decide, ne_true, ne_false}
 use Rattle.compare.proofs.counts.count_answers.Goals as goal
 
@@ -31,4 +31,4 @@ pub returns : goal.returns
 returns c =
     let it = enumerate_source c.loop-i.i-iterator in
     let r = count_past _ _ _ (enumerate_count c.loop-i.i-iterator) it (enumerate_source c.next.new.self) None _ _ refl c.in-None.ensures.steps.0 c.loop-i.invariant.2 in
-    record { value = r; agreeing = none_differ r }
+    record { value = r; agreeing = (all_agree r, none_differ r) }
