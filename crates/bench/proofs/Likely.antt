@@ -1,14 +1,14 @@
 -- Runs that are alike answer equally outside the stretches of texts, and end in equal states.
-use Rattle.std.proofs.Common.{◌≡◌, ℕ, List, [], ◌∷◌, ◌++◌, map, Option, sym, refl, ap, ◌∙◌, subst}
+use Rattle.std.proofs.Common.{◌≡◌, ℕ, List, [], ◌∷◌, ◌++◌, map, Option, sym, refl, ap, ◌∙◌, subst, ap₂}
 use Rattle.cab_unit.specs.Events.{Event}
 use Rattle.cab_unit.specs.Line.{settled}
 use Rattle.cab_unit.specs.Refusing.{refusal}
 use Rattle.cab_unit.specs.State.{State}
 use Rattle.cab_unit.specs.Steps.{changed, next, reply, switched_on}
 use Rattle.driver_desk.specs.declared.answer.Answer.{Answer}
-use Rattle.bench.specs.Laws.{LikenessLaw}
-use Rattle.bench.specs.Likeness.{Told, speed_after, told, AcceptedTexts, Alike, Alike.ended, Alike.cycles, Alike.other, Alike.texts, AnswersAgree}
-use Rattle.bench.specs.Runs.{after, answers, final_state, all_answers}
+use Rattle.bench.specs.Laws.{told_of, LikenessLaw, SpeedLaw}
+use Rattle.bench.specs.Likeness.{Told, speed_after, speeds_read, told, AcceptedTexts, Alike, Alike.ended, Alike.cycles, Alike.other, Alike.texts, AnswersAgree}
+use Rattle.bench.specs.Runs.{after, answers, speeds, final_state, run_of}
 use Rattle.bench.proofs.Accepted.{outcome_is}
 use Rattle.bench.proofs.Speeds.{told-speed, SameStep, cycles_by_speed, unread}
 use Rattle.bench.proofs.Texts.{text-call, TextsHeard, shuffled, texts-unread}
@@ -22,14 +22,18 @@ RunOf reads s (x ∷ xs) = (x.answer ≡ reply reads x.call s) × (x.speed ≡ (
 abbrev end_of : (List ℕ → Option ℕ) → List Told → State → State
 end_of reads xs s = after reads (map (λ (x : Told). x.call) xs) s
 
--- what is told of a run from s, on an end with its speed, is so
-told_run : (reads : List ℕ → Option ℕ) (es : List Event) (s : State) (v : Option ℕ) → v ≡ s.speed →
-    RunOf reads s (told reads v es (answers reads es s)) × (end_of reads (told reads v es (answers reads es s)) s ≡ after reads es s)
-told_run reads [] s v h = (tt, refl)
-told_run reads (e ∷ es) s v h =
+-- what is told of a run from s is so
+told_run : (reads : List ℕ → Option ℕ) (es : List Event) (s : State) →
+    RunOf reads s (told es (answers reads es s) (speeds reads es s)) × (end_of reads (told es (answers reads es s) (speeds reads es s)) s ≡ after reads es s)
+told_run reads [] s = (tt, refl)
+told_run reads (e ∷ es) s = let i = told_run reads es (next reads e s) in ((refl, refl, i.0), i.1)
+
+-- the speeds of a run from s, on an end with its speed, are those read
+read_run : (reads : List ℕ → Option ℕ) (es : List Event) (s : State) (v : Option ℕ) → v ≡ s.speed → speeds reads es s ≡ speeds_read reads v es (answers reads es s)
+read_run reads [] s v h = refl
+read_run reads (e ∷ es) s v h =
     let p : speed_after reads e (reply reads e s) v ≡ (next reads e s).speed = ap (speed_after reads e (reply reads e s)) h ∙ told-speed reads e s in
-    let i = told_run reads es (next reads e s) (speed_after reads e (reply reads e s) v) p in
-    ((refl, p, i.0), i.1)
+    ap₂ (λ u us. u ∷ us) (sym p) (read_run reads es (next reads e s) (speed_after reads e (reply reads e s) v) p)
 
 -- a run of two parts is a run of the first, and of the second from where the first ends
 run_parts : (reads : List ℕ → Option ℕ) (ps xs : List Told) (s : State) → RunOf reads s (ps ++ xs) → RunOf reads s ps × RunOf reads (end_of reads ps s) xs
@@ -82,13 +86,24 @@ switched_speed : (v : Option ℕ) → v ≡ (switched_on v).speed
 unfolding settled
 switched_speed v = refl
 
+pub speed_law : SpeedLaw
+speed_law reads speed es = read_run reads es (switched_on speed) speed (switched_speed speed)
+
 -- two runs on unused units that are alike
 pub likeness_law : LikenessLaw
 likeness_law reads reads' speed speed' es fs p k =
-    let xs = told reads speed es (all_answers reads speed es) in
-    let ys = told reads' speed' fs (all_answers reads' speed' fs) in
-    let a = told_run reads es (switched_on speed) speed (switched_speed speed) in
-    let b = told_run reads' fs (switched_on speed') speed' (switched_speed speed') in
+    let xs = told_of (run_of reads speed es) in
+    let ys = told_of (run_of reads' speed' fs) in
+    let a = told_run reads es (switched_on speed) in
+    let b = told_run reads' fs (switched_on speed') in
     let i = subst (Meet reads reads' xs ys (AnswersAgree k) (switched_on speed)) (ap switched_on p) (alike_meet reads reads' k (switched_on speed)) a.0 b.0 in
     let e : final_state reads speed es ≡ final_state reads' speed' fs = sym a.1 ∙ i.1 ∙ b.1 in
-    (i.0, ap (λ (s : State). s.desk.mode) e, ap (λ (s : State). s.desk.level) e, ap (λ (s : State). s.waiting) e, ap (λ (s : State). s.line) e)
+    record {
+      answers = i.0;
+      ends = record {
+        mode = ap (λ (s : State). s.desk.mode) e;
+        level = ap (λ (s : State). s.desk.level) e;
+        waiting = ap (λ (s : State). s.waiting) e;
+        line = ap (λ (s : State). s.line) e;
+      };
+    }

@@ -49,10 +49,10 @@ not-confirmed-once = (
 
 pub not_equal_ends : NotEqualEnds
 not_equal_ends = (
-  λ h. apart 4 (ap mode_code h.1),
-  λ h. apart 0 (ap level_number h.2),
-  λ h. apart 0 (ap length h.3),
-  λ h. apart 0 (ap line_number h.4),
-  λ p v h. apart 0 (ap (λ (a : Answer). a.withdrawn) h.0.0),
-  λ p q h. apart 0 (ap (λ (a : Answer). a.withdrawn) h.0.0),
+  λ h. apart 4 (ap mode_code h.ends.mode),
+  λ h. apart 0 (ap level_number h.ends.level),
+  λ h. apart 0 (ap length h.ends.waiting),
+  λ h. apart 0 (ap line_number h.ends.line),
+  λ p v h. apart 0 (ap (λ (a : Answer). a.withdrawn) h.answers.0),
+  λ p q h. apart 0 (ap (λ (a : Answer). a.withdrawn) h.answers.0),
 )

@@ -1,5 +1,5 @@
 ghost use Rattle.bench.specs.Asking.{TextsAsk};
-ghost use Rattle.bench.specs.Laws.{BookLaw, EntryLaw, LikenessLaw};
+ghost use Rattle.bench.specs.Laws.{BookLaw, EntryLaw, LikenessLaw, SpeedLaw};
 ghost use Rattle.bench.specs.Pretences.{NotByTheBook, NotConfirmedOnce, NotEqualEnds};
 ghost use Rattle.bench.specs.Readings.{RuledOut};
 
@@ -7,6 +7,7 @@ ghost use Rattle.bench.specs.Readings.{RuledOut};
 pub fn laws_stand()
     ensures book { BookLaw }
     ensures entries { EntryLaw }
+    ensures speeds { SpeedLaw }
     ensures likeness { LikenessLaw }
     ensures readings { RuledOut }
     ensures texts { TextsAsk }

@@ -7,4 +7,4 @@ mod runs;
 
 pub use edges::edges_stand;
 pub use laws::laws_stand;
-pub use runs::{Cabs, NotRun, Ran, run_both, run_lent};
+pub use runs::{Ran, Ready, run_lent};

@@ -1,13 +1,12 @@
-ghost use Rattle.std.specs.Prelude.{◌≡◌, ◌<◌, ◌+◌, ◌&&◌, map, length, is_ok, IfOk, IfErr, if◌then◌else◌, Some, None, vec_len, ◌==◌};
+ghost use Rattle.std.specs.Prelude.{◌≡◌, ◌<◌, ◌&&◌, true, map, length, is_ok, IfOk, IfErr, if◌then◌else◌, Some, None, vec_len};
 ghost use Rattle.cab_unit.specs.Events.{said, Event.take as taken};
 ghost use Rattle.cab_unit.specs.Refusing.{failed};
 ghost use Rattle.driver_desk.specs.declared.refusal.Refusal.TheVariants.{InSystemFailure};
 ghost use Rattle.cab_unit.specs.Steps.{answering, next, reply};
-ghost use Rattle.bench.specs.Both.{AsDefined, LikeEnds};
-ghost use Rattle.bench.specs.Laws.{ByTheBook, ConfirmedOnce};
-ghost use Rattle.bench.specs.Runs.{after, answers as answers_of};
-ghost use Rattle.bench.specs.View.{view};
-ghost use Rattle.bench.specs.declared.runs.NotRun.TheVariants.{NoMemory};
+ghost use Rattle.bench.specs.Both.{AsDefined, Each, Both};
+ghost use Rattle.bench.specs.Laws.{ByTheBook, ConfirmedOnce, SpeedsRead, AlikeEndEqual};
+ghost use Rattle.bench.specs.Runs.{after, answers as answers_of, speeds as speeds_of};
+ghost use Rattle.bench.specs.View.{view, has_room, run_by, runs_by};
 
 use cab_unit::{Call, Unit};
 use driver_desk::{Answer, Draft, Level, Refusal, TrainRecord};
@@ -15,25 +14,20 @@ use std::alloc::{AllocError, Global};
 use telegram::Mode;
 use train_end::{BrakeLine, TrainEnd};
 
-// Two cabs after their runs, with the answer to each call. The caller switches the units off.
-// Each list of answers is as long as its own list of calls, so the two can't be one list of pairs; the units are fields here as in Cabs, since clauses and callers read them.
-pub struct Ran<E, F> {
-    pub one: Unit<E>,
-    pub other: Unit<F>,
+/// A cab before its run: its end, the calls that it is to get, and a place for the answer to each and for the speed after it.
+pub struct Ready<'a, E> {
+    pub end: E,
+    pub calls: &'a [Call<'a>],
     pub answers: Vec<Answer>,
-    pub other_answers: Vec<Answer>,
+    pub speeds: Vec<Option<u16>>,
 }
 
-// Two cabs after their runs, the answers to which lie in lent places. The caller switches the units off.
-pub struct Cabs<E, F> {
-    pub one: Unit<E>,
-    pub other: Unit<F>,
-}
-
-// Why two lists were not run: memory for the answers was wanting. The ends that were handed in come back in it.
-#[derive(Drop)]
-pub enum NotRun<E, F> {
-    NoMemory(E, F),
+/// A cab after its run: its unit, the answer to each call, and the speed in km/h that the unit's own end had after it,
+/// none where that was unknown. The caller switches the unit off.
+pub struct Ran<E> {
+    pub unit: Unit<E>,
+    pub answers: Vec<Answer>,
+    pub speeds: Vec<Option<u16>>,
 }
 
 // What a unit answers to numbers that no draft takes. In System Failure it says that before all else.
@@ -82,53 +76,107 @@ fn make_call<E: TrainEnd>(unit: &mut Unit<E>, call: &Call<'_>) -> Answer
     }
 }
 
-// Makes the calls in their order, and writes the answer to each at its place.
+// Makes the calls in their order, and writes the answer to each, and the speed after it, at its place.
 // By the place's index: of what is written through `iter_mut` beside `zip` a proof knows nothing afterwards.
-fn run_into<E: TrainEnd>(unit: &mut Unit<E>, calls: &[Call<'_>], answers: &mut [Answer])
-    requires { length answers.old ≡ length calls.now }
+fn run_into<E: TrainEnd>(
+    unit: &mut Unit<E>,
+    calls: &[Call<'_>],
+    answers: &mut [Answer],
+    speeds: &mut [Option<u16>],
+)
+    requires answers { length answers.old ≡ length calls.now }
+    requires speeds { length speeds.old ≡ length calls.now }
     ensures state { view E.TrainEnd unit.new ≡ after E.reading (map said calls.now) (view E.TrainEnd unit.old) }
     ensures answers { answers.new ≡ answers_of E.reading (map said calls.now) (view E.TrainEnd unit.old) }
+    ensures speeds { speeds.new ≡ speeds_of E.reading (map said calls.now) (view E.TrainEnd unit.old) }
 {
     for (i, call) in calls.iter().enumerate() {
         answers[i] = make_call(unit, call);
+        speeds[i] = unit.speed();
     }
 }
 
-// Runs two cabs: switches a unit on at each end, and makes the calls of its list. The answers go to the places lent for them.
-//
-// Where there are not as many places as calls, nothing is run and the ends come back as they were.
-pub fn run_lent<E: TrainEnd, F: TrainEnd>(
-    one: E,
-    other: F,
-    calls: &[Call<'_>],
-    others: &[Call<'_>],
-    answers: &mut [Answer],
-    other_answers: &mut [Answer],
-) -> Result<Cabs<E, F>, (E, F)>
-    ensures fits { is_ok result ≡ (length answers.old == length calls.now && length other_answers.old == length others.now) }
-    ensures runs { IfOk result (λ ran. AsDefined E.TrainEnd.reading (E.TrainEnd.speed_of one) (map said calls.now) answers.new (view E.TrainEnd ran.one) × AsDefined F.TrainEnd.reading (F.TrainEnd.speed_of other) (map said others.now) other_answers.new (view F.TrainEnd ran.other)) }
-    ensures book { IfOk result (λ ran. ByTheBook (map said calls.now) answers.new (view E.TrainEnd ran.one) × ByTheBook (map said others.now) other_answers.new (view F.TrainEnd ran.other)) }
-    ensures entries { IfOk result (λ ran. ConfirmedOnce (map said calls.now) answers.new (view E.TrainEnd ran.one) × ConfirmedOnce (map said others.now) other_answers.new (view F.TrainEnd ran.other)) }
-    ensures likeness { IfOk result (λ ran. LikeEnds E.TrainEnd.reading (E.TrainEnd.speed_of one) (map said calls.now) answers.new (view E.TrainEnd ran.one) F.TrainEnd.reading (F.TrainEnd.speed_of other) (map said others.now) other_answers.new (view F.TrainEnd ran.other)) }
-    ensures back { IfErr result (λ ends. (ends.0 ≡ one) × (ends.1 ≡ other) × (answers.new ≡ answers.old) × (other_answers.new ≡ other_answers.old)) }
+impl<'a, E: TrainEnd> Ready<'a, E> {
+    /// A cab at this end with these calls, with the places that it wants. Where memory is wanting, the end comes back.
+    pub fn new(heap: Global, end: E, calls: &'a [Call<'a>]) -> Result<Ready<'a, E>, E>
+        ensures end { IfOk result (λ c. c.end ≡ end) }
+        ensures calls { IfOk result (λ c. c.calls ≡ calls.entry) }
+        ensures room { IfOk result (λ c. has_room c ≡ true) }
+        ensures back { IfErr result (λ e. e ≡ end) }
+        ensures memory { IfErr result (λ _. 0 < length calls.entry.now) }
+    {
+        match blank_places(heap, calls.len()) {
+            Ok((answers, speeds)) => Ok(Ready {
+                end,
+                calls,
+                answers,
+                speeds,
+            }),
+            Err(AllocError) => Err(end),
+        }
+    }
+
+    fn has_room(&self) -> bool
+        ensures { result ≡ has_room self.now }
+    {
+        self.answers.len() == self.calls.len() && self.speeds.len() == self.calls.len()
+    }
+
+    // Switches a unit on at the end and makes the calls.
+    fn run(self) -> Ran<E>
+        requires { has_room self ≡ true }
+        ensures { AsDefined (run_by E.TrainEnd self.entry result) }
+    {
+        let Ready {
+            end,
+            calls,
+            mut answers,
+            mut speeds,
+        } = self;
+        let mut unit = Unit::switch_on(end);
+        run_into(
+            &mut unit,
+            calls,
+            answers.as_mut_slice(),
+            speeds.as_mut_slice(),
+        );
+        Ran {
+            unit,
+            answers,
+            speeds,
+        }
+    }
+}
+
+/// Runs two cabs: switches a unit on at the end of each, and makes its calls. The places come back with the answers and speeds.
+///
+/// Where a cab has not as many places as calls, nothing is run, and both come back as they were.
+pub fn run_lent<'a, 'b, E: TrainEnd, F: TrainEnd>(
+    one: Ready<'a, E>,
+    other: Ready<'b, F>,
+) -> Result<(Ran<E>, Ran<F>), (Ready<'a, E>, Ready<'b, F>)>
+    ensures fits { is_ok result ≡ (has_room one.entry && has_room other.entry) }
+    ensures runs { IfOk result (λ r. Each AsDefined (runs_by E.TrainEnd F.TrainEnd one.entry other.entry r)) }
+    ensures speeds { IfOk result (λ r. Each SpeedsRead (runs_by E.TrainEnd F.TrainEnd one.entry other.entry r)) }
+    ensures book { IfOk result (λ r. Each ByTheBook (runs_by E.TrainEnd F.TrainEnd one.entry other.entry r)) }
+    ensures entries { IfOk result (λ r. Each ConfirmedOnce (runs_by E.TrainEnd F.TrainEnd one.entry other.entry r)) }
+    ensures likeness { IfOk result (λ r. Both AlikeEndEqual (runs_by E.TrainEnd F.TrainEnd one.entry other.entry r)) }
+    ensures back { IfErr result (λ back. (back.0 ≡ one.entry) × (back.1 ≡ other.entry)) }
 {
-    if answers.len() != calls.len() || other_answers.len() != others.len() {
+    if !one.has_room() || !other.has_room() {
         return Err((one, other));
     }
-    let mut one = Unit::switch_on(one);
-    let mut other = Unit::switch_on(other);
-    run_into(&mut one, calls, answers);
-    run_into(&mut other, others, other_answers);
-    Ok(Cabs { one, other })
+    Ok((one.run(), other.run()))
 }
 
-// A place for each of n answers, none of them in memory where n is 0. The blank is written out: no mode, level or line is one by default, and each place is written over.
-fn blank_answers(heap: Global, n: usize) -> Result<Vec<Answer>, AllocError>
-    ensures places { IfOk result (λ v. vec_len v ≡ n) }
+// A place for each of n answers and speeds, none of them in memory where n is 0.
+// The blank is written out: no mode, level or line is one by default, and each place is written over.
+fn blank_places(heap: Global, n: usize) -> Result<(Vec<Answer>, Vec<Option<u16>>), AllocError>
+    ensures places { IfOk result (λ v. (vec_len v.0 ≡ n) × (vec_len v.1 ≡ n)) }
     ensures memory { IfErr result (λ _. 0 < n) }
 {
     if n == 0 {
-        return Ok(Vec::new(heap));
+        return Ok((Vec::new(heap), Vec::new(heap)));
     }
     let blank = Answer {
         outcome: None,
@@ -142,47 +190,5 @@ fn blank_answers(heap: Global, n: usize) -> Result<Vec<Answer>, AllocError>
         acknowledged: None,
         withdrawn: 0,
     };
-    vec![in heap; blank; n]
-}
-
-// Runs two cabs: switches a unit on at each end, and makes the calls of its list.
-//
-// Room for the answers is made first: where memory is wanting, nothing is run and the ends come back as they were.
-pub fn run_both<E: TrainEnd, F: TrainEnd>(
-    heap: Global,
-    one: E,
-    other: F,
-    calls: &[Call<'_>],
-    others: &[Call<'_>],
-) -> Result<Ran<E, F>, NotRun<E, F>>
-    ensures runs { IfOk result (λ ran. AsDefined E.TrainEnd.reading (E.TrainEnd.speed_of one) (map said calls.now) ran.answers.items (view E.TrainEnd ran.one) × AsDefined F.TrainEnd.reading (F.TrainEnd.speed_of other) (map said others.now) ran.other_answers.items (view F.TrainEnd ran.other)) }
-    ensures book { IfOk result (λ ran. ByTheBook (map said calls.now) ran.answers.items (view E.TrainEnd ran.one) × ByTheBook (map said others.now) ran.other_answers.items (view F.TrainEnd ran.other)) }
-    ensures entries { IfOk result (λ ran. ConfirmedOnce (map said calls.now) ran.answers.items (view E.TrainEnd ran.one) × ConfirmedOnce (map said others.now) ran.other_answers.items (view F.TrainEnd ran.other)) }
-    ensures likeness { IfOk result (λ ran. LikeEnds E.TrainEnd.reading (E.TrainEnd.speed_of one) (map said calls.now) ran.answers.items (view E.TrainEnd ran.one) F.TrainEnd.reading (F.TrainEnd.speed_of other) (map said others.now) ran.other_answers.items (view F.TrainEnd ran.other)) }
-    ensures back { IfErr result (λ why. why ≡ NoMemory one other) }
-    ensures memory { IfErr result (λ _. 0 < length calls.now + length others.now) }
-{
-    let Ok(mut answers) = blank_answers(heap, calls.len()) else {
-        return Err(NotRun::NoMemory(one, other));
-    };
-    let Ok(mut other_answers) = blank_answers(heap, others.len()) else {
-        return Err(NotRun::NoMemory(one, other));
-    };
-    match run_lent(
-        one,
-        other,
-        calls,
-        others,
-        answers.as_mut_slice(),
-        other_answers.as_mut_slice(),
-    ) {
-        Ok(Cabs { one, other }) => Ok(Ran {
-            one,
-            other,
-            answers,
-            other_answers,
-        }),
-        // There are as many places as calls, so this does not come.
-        Err((one, other)) => Err(NotRun::NoMemory(one, other)),
-    }
+    Ok((vec![in heap; blank; n]?, vec![in heap; None; n]?))
 }

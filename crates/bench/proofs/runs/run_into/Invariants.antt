@@ -1,6 +1,6 @@
 use Rattle.std.proofs.Common.{◌≡◌, ◌++◌, map, take, drop}
 use Rattle.cab_unit.specs.Events.{said}
-use Rattle.bench.specs.Runs.{after, answers}
+use Rattle.bench.specs.Runs.{after, answers, speeds}
 use Rattle.bench.specs.View.{view}
 use Rattle.bench.proofs.runs.run_into.Given as goal
 
@@ -12,3 +12,4 @@ invariant-loop-i g l =
     let rest = map said (drop l.i l.calls) in
     (after e.reading rest s ≡ after e.reading (map said l.calls) s₀)
     × (take l.i l.answers ++ answers e.reading rest s ≡ answers e.reading (map said l.calls) s₀)
+    × (take l.i l.speeds ++ speeds e.reading rest s ≡ speeds e.reading (map said l.calls) s₀)
