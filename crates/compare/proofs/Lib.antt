@@ -1,5 +1,3 @@
-pub mod Telling
-pub mod Counting
 pub mod Asking
 pub mod Equal
 pub mod Shuffling

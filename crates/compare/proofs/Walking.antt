@@ -6,7 +6,10 @@ use Rattle.cab_unit.specs.declared.call.Call.{Call}
 use Rattle.cab_unit.specs.Events.{Event, said}
 use Rattle.driver_desk.specs.declared.answer.Answer.{Answer}
 use Rattle.compare.specs.Asked.{unblocked}
-use Rattle.compare.specs.Compared.{LawApplies}
+use Rattle.compare.specs.Decided.{LawApplies}
+use Rattle.compare.specs.Marks.{stretch_marks, marks_of}
+use Rattle.compare.specs.declared.marks.Mark.{Mark}
+use Rattle.compare.specs.declared.marks.Mark.TheVariants.{Inside, Last}
 use Rattle.driver_desk.specs.Answers.{is_accepted}
 use Rattle.cab_unit.specs.Events.{is_text}
 use Rattle.ordering.specs.Shuffle.{Shuffle}
@@ -132,16 +135,16 @@ front_within (stretch k l h n s) = (omega (arith, l), h.0)
 front_within (apart k l h t n) = (l, h.0)
 
 -- what is walked of the rests, behind what was found so far, is walked of all
-abbrev pub Walks : List Event → List Answer → List Event → List Answer → List Event → List Answer → List Event → List Answer → Bool → List Bool → Type 0
-Walks es as' fs bs es' as'' fs' bs' s ms = (u : Bool) (ns : List Bool) → Walked u ns es' as'' fs' bs' → Walked (s && u) (ms ++ ns) es as' fs bs
+abbrev pub Walks : List Event → List Answer → List Event → List Answer → List Event → List Answer → List Event → List Answer → Bool → List Mark → Type 0
+Walks es as' fs bs es' as'' fs' bs' s ms = (u : Bool) (ns : List Mark) → Walked u ns es' as'' fs' bs' → Walked (s && u) (ms ++ ns) es as' fs bs
 
 module _ {t m : Bool} {k : ℕ} {es' es'' fs' fs'' : List Event} {as'' as₃ bs' bs'' : List Answer}
     (r : Front t m k es' as'' fs' bs') (p : es'' ≡ drop k es') (q : as₃ ≡ drop k as'') (p' : fs'' ≡ drop k fs') (q' : bs'' ≡ drop k bs') where
   -- one front more
-  pub walk_more : {es fs : List Event} {as' bs : List Answer} (s : Bool) (ms : List Bool) → Walks es as' fs bs es' as'' fs' bs' s ms → Walks es as' fs bs es'' as₃ fs'' bs'' (s && t) (ms ++ replicate k m)
+  pub walk_more : {es fs : List Event} {as' bs : List Answer} (s : Bool) (ms : List Mark) → Walks es as' fs bs es' as'' fs' bs' s ms → Walks es as' fs bs es'' as₃ fs'' bs'' (s && t) (ms ++ marks_of m k)
   walk_more {es} {fs} {as'} {bs} s ms inv u ns w =
       let rest = same_rows (Walked u ns) p q p' q' w in
-      subst₂ (λ x y. Walked x y es as' fs bs) (sym (and_assoc s t u)) (sym (append_assoc ms (replicate k m) ns)) (inv (t && u) (replicate k m ++ ns) (more r rest))
+      subst₂ (λ x y. Walked x y es as' fs bs) (sym (and_assoc s t u)) (sym (append_assoc ms (marks_of m k) ns)) (inv (t && u) (marks_of m k ++ ns) (more r rest))
 
   -- behind a front the lists are shorter, and have as many answers again
   pub front_fits : AsLong es' as'' fs' bs' → AsLong es'' as₃ fs'' bs'' × (0 < k) × (k + length es'' ≡ length es')
@@ -155,20 +158,35 @@ module _ {t m : Bool} {k : ℕ} {es' es'' fs' fs'' : List Event} {as'' as₃ bs'
       ((omega (arith, h), omega (arith, h), omega (arith, h)), w.0, omega arith)
 
 -- where no call is left, nothing is left to walk
-pub walk_past : {es fs es' fs' : List Event} {as' bs as'' bs' : List Answer} (s : Bool) (ms : List Bool) → AsLong es' as'' fs' bs' → length es' ≡ 0 → Walks es as' fs bs es' as'' fs' bs' s ms → Walked s ms es as' fs bs
+pub walk_past : {es fs es' fs' : List Event} {as' bs as'' bs' : List Answer} (s : Bool) (ms : List Mark) → AsLong es' as'' fs' bs' → length es' ≡ 0 → Walks es as' fs bs es' as'' fs' bs' s ms → Walked s ms es as' fs bs
 walk_past {es} {fs} {as' = as'} {bs = bs} s ms h l inv =
     let none = same_rows (Walked true []) (sym (nil_from_length _ l)) (sym (nil_from_length _ (h.1 ∙ l))) (sym (nil_from_length _ (h.0 ∙ l))) (sym (nil_from_length _ (h.2 ∙ l))) ended in
     subst₂ (λ x y. Walked x y es as' fs bs) (and_all s) (append-nil ms) (inv true [] none)
 
--- as many marks more as the front is long
-pub marks_more : (ms : List Bool) (n i k : ℕ) (m : Bool) → n ≡ length ms → i ≡ n → take (i + k) ms ++ replicate ((i + k) - n) m ≡ ms ++ replicate k m
+-- as many marks more
+pub marks_more : {X : Type 0} (ms : List X) (n i k : ℕ) (m : X) → n ≡ length ms → i ≡ n → take (i + k) ms ++ replicate ((i + k) - n) m ≡ ms ++ replicate k m
 marks_more ms n i k m e p =
     let past : length ms ≤ i + k = omega arith in
     let left : (i + k) - n ≡ k = omega arith in
     ap₂ (λ x y. x ++ replicate y m) (take_all (i + k) ms past) left
 
+-- the marks of a stretch, but for the last
+pub inside_last : (k : ℕ) → replicate k Inside ++ Last ∷ [] ≡ stretch_marks (suc k)
+inside_last zero = refl
+inside_last (suc k) = ap (λ l. Inside ∷ l) (inside_last k)
+
+-- a stretch more
+pub stretch_more : (ms : List Mark) (n i k : ℕ) → n ≡ length ms → i ≡ n → 0 < k → (take ((i + k) - 1) ms ++ replicate (((i + k) - 1) - n) Inside) ++ Last ∷ [] ≡ ms ++ stretch_marks k
+stretch_more ms n i zero e p h = absurd (omega (arith, h))
+stretch_more ms n i (suc j) e p h =
+    let at : (i + suc j) - 1 ≡ i + j = omega arith in
+    ap (λ l. (take l ms ++ replicate (l - n) Inside) ++ Last ∷ []) at
+    ∙ ap (λ (l : List Mark). l ++ Last ∷ []) (marks_more ms n i j Inside e p)
+    ∙ append_assoc ms (replicate j Inside) (Last ∷ [])
+    ∙ ap (λ l. ms ++ l) (inside_last j)
+
 -- lists of any lengths, walked as far as all go
-pub compared_by : (es : List Event) (as' : List Answer) (fs : List Event) (bs : List Answer) (n : ℕ) (r s : Bool) (ms : List Bool) →
+pub compared_by : (es : List Event) (as' : List Answer) (fs : List Event) (bs : List Answer) (n : ℕ) (r s : Bool) (ms : List Mark) →
     n ≡ shortest es as' fs bs → Decides r (AsLong es as' fs bs) → Walked s ms (take n es) (take n as') (take n fs) (take n bs) → Compared (r && s) ms es as' fs bs
 compared_by es as' fs bs n true s ms e d w =
     let h = d.0 refl in
@@ -176,6 +194,6 @@ compared_by es as' fs bs n true s ms e d w =
 compared_by es as' fs bs n false s ms e d w = cut n (λ h. false≢true (d.1 h)) e w
 
 -- lists that are compared and found alike
-pub compared_applies : {s : Bool} {ms : List Bool} {es fs : List Event} {as' bs : List Answer} → Compared s ms es as' fs bs → s ≡ true → LawApplies ms es as' fs bs
+pub compared_applies : {s : Bool} {ms : List Mark} {es fs : List Event} {as' bs : List Answer} → Compared s ms es as' fs bs → s ≡ true → LawApplies ms es as' fs bs
 compared_applies (whole h w) e = walked_applies w e
 compared_applies (cut n h m w) e = absurd (false≢true e)

@@ -1,63 +1,62 @@
--- What the comparing of two runs finds: unequal speeds, stretches in another order, answers that differ.
-use Rattle.std.specs.Prelude.{◌≡◌, ℕ, ◌+◌, Bool, true, false, cond, List, [], ◌∷◌, drop, Option, ◌≢◌, nat_eq, length, slice_index_or}
-use Rattle.std.specs.Option.{option_eq}
-use Rattle.cab_unit.specs.Events.{Event}
+-- What the comparing of two runs finds: speeds, answers and messages that differ, and what the likeness of the runs leaves open.
+use Rattle.std.specs.Prelude.{◌≡◌, ◌↔◌, ℕ, ◌+◌, Bool, true, false, not, ◌&&◌, List, [], ◌∷◌, ◌++◌, map, length, take, vec_items, Some, None, Option, ◌≢◌}
+use Rattle.cab_unit.specs.Events.{Event, is_cycle}
 use Rattle.driver_desk.specs.declared.answer.Answer.{Answer}
-use Rattle.bench.specs.Likeness.{Told, told, Alike, AnswersAgree}
+use Rattle.bench.specs.Likeness.{Told, told, calls_of, Alike, Alike.ended, Alike.cycles, Alike.other, Alike.texts, AnswersAgree, left_open}
+use Rattle.messages.specs.Shown.{Display, dark, after_call, messages_of}
+use Rattle.messages.specs.Stretches.{Fits, after_texts}
+use Rattle.compare.specs.Marks.{opens, kept, shown_kept}
+use Rattle.compare.specs.declared.tally.Tally.{Tally}
 
-abbrev pub same_speed : Option ℕ → Option ℕ → Bool
-same_speed v w = option_eq nat_eq v w
+-- what stands at the kept places of two lists is equal
+abbrev pub AgreeWhere : {X : Type 0} → List Bool → List X → List X → Type 0
+AgreeWhere [] xs ys = Unit {0}
+AgreeWhere (k ∷ ks) [] ys = Unit {0}
+AgreeWhere (k ∷ ks) (x ∷ xs) [] = Unit {0}
+AgreeWhere (k ∷ ks) (x ∷ xs) (y ∷ ys) = (k ≡ true → x ≡ y) × AgreeWhere ks xs ys
 
--- after how many calls the two ends have different speeds
-abbrev pub unequal_speeds : List Told → List Told → ℕ
-unequal_speeds [] ys = 0
-unequal_speeds (x ∷ xs) [] = 0
-unequal_speeds (x ∷ xs) (y ∷ ys) = cond (same_speed x.speed y.speed) 0 1 + unequal_speeds xs ys
+-- nothing was compared yet
+abbrev pub none_compared : Tally
+none_compared = record { compared = 0; differing = 0; first = None }
 
--- answers with no mark are equal
-abbrev pub AgreeOutside : List Bool → List Answer → List Answer → Type 0
-AgreeOutside ms [] bs = Unit {0}
-AgreeOutside ms (a ∷ as') [] = Unit {0}
-AgreeOutside ms (a ∷ as') (b ∷ bs) = (slice_index_or ms 0 false ≡ false → a ≡ b) × AgreeOutside (drop 1 ms) as' bs
+abbrev pub first_of : Option ℕ → ℕ → Option ℕ
+first_of None place = Some place
+first_of (Some p) place = Some p
 
--- each call of two runs has its answer
-abbrev pub Answered : List Event → List Answer → List Event → List Answer → Type 0
-Answered es as' fs bs = (length as' ≡ length es) × (length bs ≡ length fs)
+-- one more was compared, and was equal, or differs
+abbrev pub one_equal : Tally → Tally
+one_equal t = record { compared = t.compared + 1; differing = t.differing; first = t.first }
 
--- where the speeds were equal, the runs as told are alike, and where their answers agree they are equal outside the marks
-abbrev pub LawApplies : List Bool → List Event → List Answer → List Event → List Answer → Type 0
-LawApplies ms es as' fs bs =
-    (reads reads' : List ℕ → Option ℕ) (speed speed' : Option ℕ) → unequal_speeds (told reads speed es as') (told reads' speed' fs bs) ≡ 0 →
-    (k : Alike (told reads speed es as') (told reads' speed' fs bs)) × (AnswersAgree k → AgreeOutside ms as' bs)
+abbrev pub one_differs : ℕ → Tally → Tally
+one_differs place t = record { compared = t.compared + 1; differing = t.differing + 1; first = first_of t.first place }
 
--- where the runs as told are alike, however that is shown, they are found alike, answers that are equal outside the marks agree,
--- and no speed is unequal where the first ones are equal
-abbrev pub LawFound : Bool → List Bool → List Event → List Answer → List Event → List Answer → Type 0
-LawFound s ms es as' fs bs =
-    (reads reads' : List ℕ → Option ℕ) (speed speed' : Option ℕ) → Answered es as' fs bs → (k : Alike (told reads speed es as') (told reads' speed' fs bs)) →
-    (s ≡ true) × (AgreeOutside ms as' bs → AnswersAgree k) × (speed ≡ speed' → unequal_speeds (told reads speed es as') (told reads' speed' fs bs) ≡ 0)
+-- the tally of two lists, of which the kept places are compared
+pub data Tallied {X : Type 0} : List Bool → List X → List X → Tally → Type 0 where
+  nothing : Tallied [] [] [] none_compared
+  left_out : (x y : X) {ks : List Bool} {xs ys : List X} {t : Tally} → Tallied ks xs ys t → Tallied (ks ++ false ∷ []) (xs ++ x ∷ []) (ys ++ y ∷ []) t
+  equal : (x y : X) {ks : List Bool} {xs ys : List X} {t : Tally} → x ≡ y → Tallied ks xs ys t → Tallied (ks ++ true ∷ []) (xs ++ x ∷ []) (ys ++ y ∷ []) (one_equal t)
+  differs : (x y : X) {ks : List Bool} {xs ys : List X} {t : Tally} → (x ≢ y) → Tallied ks xs ys t →
+      Tallied (ks ++ true ∷ []) (xs ++ x ∷ []) (ys ++ y ∷ []) (one_differs (length xs) t)
 
--- found alike exactly where the law says so, and marked exactly what it leaves open
-abbrev pub LawDecided : Bool → List Bool → List Event → List Answer → List Event → List Answer → Type 0
-LawDecided s ms es as' fs bs = (s ≡ true → LawApplies ms es as' fs bs) × LawFound s ms es as' fs bs
+-- the samples of speed: the places where both runs have a cycle
+abbrev pub sampled : List Event → List Event → List Bool
+sampled [] fs = []
+sampled (e ∷ es) [] = []
+sampled (e ∷ es) (f ∷ fs) = (is_cycle e && is_cycle f) ∷ sampled es fs
 
--- of the pairs of answers with no mark, c were compared and d differ
-pub data Counted : List Bool → List Answer → List Answer → ℕ → ℕ → Type 0 where
-  none_left : {ms : List Bool} {bs : List Answer} → Counted ms [] bs 0 0
-  none_right : {ms : List Bool} {as' : List Answer} → Counted ms as' [] 0 0
-  marked : {ms : List Bool} {a b : Answer} {as' bs : List Answer} {c d : ℕ} → slice_index_or ms 0 false ≡ true →
-      Counted (drop 1 ms) as' bs c d → Counted ms (a ∷ as') (b ∷ bs) c d
-  agrees : {ms : List Bool} {a b : Answer} {as' bs : List Answer} {c d : ℕ} → slice_index_or ms 0 false ≡ false → a ≡ b →
-      Counted (drop 1 ms) as' bs c d → Counted ms (a ∷ as') (b ∷ bs) (1 + c) d
-  differs : {ms : List Bool} {a b : Answer} {as' bs : List Answer} {c d : ℕ} → slice_index_or ms 0 false ≡ false → (a ≢ b) →
-      Counted (drop 1 ms) as' bs c d → Counted ms (a ∷ as') (b ∷ bs) (1 + c) (1 + d)
+-- every place of the one list is one of the other
+abbrev pub Covers : List Bool → List Bool → Type 0
+Covers [] ps = Unit {0}
+Covers (o ∷ os) [] = Unit {0}
+Covers (o ∷ os) (p ∷ ps) = (o ≡ true → p ≡ true) × Covers os ps
 
--- the runs as told are alike, and where their answers agree none is counted as differing
-abbrev pub RunsAlike : (List ℕ → Option ℕ) → Option ℕ → List Event → List Answer → (List ℕ → Option ℕ) → Option ℕ → List Event → List Answer → ℕ → Type 0
-RunsAlike reads speed es as' reads' speed' fs bs d = (k : Alike (told reads speed es as') (told reads' speed' fs bs)) × (AnswersAgree k → d ≡ 0)
+-- every stretch fits into the window that stands before it
+abbrev pub Fitting : {xs ys : List Told} → Alike xs ys → Display → Type 0
+Fitting ended d = Unit {0}
+Fitting (cycles {x} p q v k) d = Fitting k (after_call x.call x.answer d)
+Fitting (other {x} p q k) d = Fitting k (after_call x.call x.answer d)
+Fitting (texts ps qs p q w k) d = Fits (calls_of ps) d × Fitting k (after_texts (calls_of ps) d)
 
--- where the runs as told are alike, however that is shown, they are found alike, where no answer is counted as differing they agree,
--- and no speed is unequal where the ends had the same at first
-abbrev pub RunsFound : (List ℕ → Option ℕ) → Option ℕ → List Event → List Answer → (List ℕ → Option ℕ) → Option ℕ → List Event → List Answer → Bool → ℕ → ℕ → Type 0
-RunsFound reads speed es as' reads' speed' fs bs s u d =
-    (k : Alike (told reads speed es as') (told reads' speed' fs bs)) → (s ≡ true) × (d ≡ 0 → AnswersAgree k) × (speed ≡ speed' → u ≡ 0)
+-- a run as it is told, whatever its speeds
+abbrev pub unspeeded : List Told → List Told
+unspeeded xs = map (λ (x : Told). record { call = x.call; answer = x.answer; speed = None }) xs

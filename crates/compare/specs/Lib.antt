@@ -1,4 +1,6 @@
 pub mod Asked
 pub mod Account
+pub mod Marks
 pub mod Walked
 pub mod Compared
+pub mod Decided

@@ -1,12 +1,14 @@
 -- When two lists of calls, with their answers, are the same up to blocks and the order of neighbouring accepted texts,
 -- and which calls lie in a stretch that came in another order.
-use Rattle.std.specs.Prelude.{◌≡◌, ℕ, suc, ◌<◌, ◌≤◌, min, Bool, true, false, ◌&&◌, List, [], ◌∷◌, ◌++◌, length, take, drop, replicate, None, ◌≢◌}
+use Rattle.std.specs.Prelude.{◌≡◌, ℕ, suc, ◌<◌, ◌≤◌, min, Bool, true, false, ◌&&◌, List, [], ◌∷◌, ◌++◌, length, take, drop, None, ◌≢◌}
 use Rattle.std.specs.List.{AllByRecursion}
 use Rattle.cab_unit.specs.Events.{Event}
 use Rattle.driver_desk.specs.declared.answer.Answer.{Answer}
 use Rattle.compare.specs.Asked.{unblocked}
-use Rattle.compare.specs.declared.stretches.Stretch.{Stretch}
-use Rattle.compare.specs.declared.stretches.Stretch.TheVariants.{Same, Reordered, Other}
+use Rattle.compare.specs.Marks.{marks_of}
+use Rattle.compare.specs.declared.marks.Mark.{Mark}
+use Rattle.compare.specs.declared.marks.Stretch.{Stretch}
+use Rattle.compare.specs.declared.marks.Stretch.TheVariants.{Same, Reordered, Other}
 use Rattle.driver_desk.specs.Answers.{is_accepted}
 use Rattle.cab_unit.specs.Events.{is_text}
 use Rattle.ordering.specs.Shuffle.{Shuffle}
@@ -57,10 +59,10 @@ pub data Front : Bool → Bool → ℕ → List Event → List Answer → List E
       (text_next (drop k es) (drop k as') && text_next (drop k fs) (drop k bs)) ≡ false → Apart (suc k) es fs → Front false false k es as' fs bs
 
 -- the whole of two lists with as many answers, front by front
-pub data Walked : Bool → List Bool → List Event → List Answer → List Event → List Answer → Type 0 where
+pub data Walked : Bool → List Mark → List Event → List Answer → List Event → List Answer → Type 0 where
   ended : Walked true [] [] [] [] []
-  more : {t m s : Bool} {k : ℕ} {ms : List Bool} {es fs : List Event} {as' bs : List Answer} → Front t m k es as' fs bs →
-      Walked s ms (drop k es) (drop k as') (drop k fs) (drop k bs) → Walked (t && s) (replicate k m ++ ms) es as' fs bs
+  more : {t m s : Bool} {k : ℕ} {ms : List Mark} {es fs : List Event} {as' bs : List Answer} → Front t m k es as' fs bs →
+      Walked s ms (drop k es) (drop k as') (drop k fs) (drop k bs) → Walked (t && s) (marks_of m k ++ ms) es as' fs bs
 
 -- how far all four lists go
 abbrev pub shortest : List Event → List Answer → List Event → List Answer → ℕ
@@ -71,7 +73,7 @@ abbrev pub AsLong : List Event → List Answer → List Event → List Answer �
 AsLong es as' fs bs = (length fs ≡ length es) × (length as' ≡ length es) × (length bs ≡ length es)
 
 -- lists of any lengths are compared as far as all go, and are alike only where none is longer
-pub data Compared : Bool → List Bool → List Event → List Answer → List Event → List Answer → Type 0 where
-  whole : {s : Bool} {ms : List Bool} {es fs : List Event} {as' bs : List Answer} → AsLong es as' fs bs → Walked s ms es as' fs bs → Compared s ms es as' fs bs
-  cut : (n : ℕ) {s : Bool} {ms : List Bool} {es fs : List Event} {as' bs : List Answer} → (AsLong es as' fs bs → ⊥) → n ≡ shortest es as' fs bs →
+pub data Compared : Bool → List Mark → List Event → List Answer → List Event → List Answer → Type 0 where
+  whole : {s : Bool} {ms : List Mark} {es fs : List Event} {as' bs : List Answer} → AsLong es as' fs bs → Walked s ms es as' fs bs → Compared s ms es as' fs bs
+  cut : (n : ℕ) {s : Bool} {ms : List Mark} {es fs : List Event} {as' bs : List Answer} → (AsLong es as' fs bs → ⊥) → n ≡ shortest es as' fs bs →
       Walked s ms (take n es) (take n as') (take n fs) (take n bs) → Compared false ms es as' fs bs

@@ -1,21 +1,40 @@
-ghost use Rattle.std.specs.Prelude.{◌≡◌, ◌<◌, ◌+◌, true, ◌&&◌, [], ◌∷◌, ◌++◌, length, take, drop, is_some, IfSome, IfOk, IfErr, Decides};
+ghost use Rattle.std.specs.Prelude.{◌≡◌, ◌<◌, ◌+◌, ◌^◌, true, ◌&&◌, [], ◌∷◌, ◌++◌, length, take, drop, is_some, IfSome, IfOk, IfErr, OnOk, Decides, vec_len};
 ghost use Rattle.compare.specs.Asked.{asked, keyed};
-ghost use Rattle.compare.specs.Compared.{LawDecided};
+ghost use Rattle.compare.specs.Decided.{LawDecided};
+ghost use Rattle.compare.specs.Marks.{marks_of};
 ghost use Rattle.compare.specs.Walked.{Apart, AsLong, Compared, Front, Walked, is_alike, is_reordered, shortest, text_next};
 
 use crate::account::{Surplus, enter};
 use crate::asked::{TextKey, same_asked, text_key};
 use crate::run::Run;
-use crate::stretches::Stretch;
+use crate::marks::{Mark, Stretch};
 use std::alloc::{AllocError, Global};
 use std::collections::BTreeMap;
 
 // Whether two lists that were run are the same up to blocks and the order of neighbouring accepted texts,
-// and which calls lie in a stretch that came in another order.
+// and what is compared of each place.
 #[derive(Drop)]
-pub struct Likeness {
-    pub alike: bool,
-    pub reordered: Vec<bool>,
+pub(crate) struct Likeness {
+    pub(crate) alike: bool,
+    pub(crate) marks: Vec<Mark>,
+}
+
+// So many places more, in another order or not.
+fn add_marks(marks: &mut Vec<Mark>, length: usize, reordered: bool) -> Result<(), AllocError>
+    requires { vec_len marks.old + length < 2 ^ 64 }
+    ensures items { OnOk result (marks.new.items ≡ marks.old.items ++ marks_of reordered length) }
+    ensures len { OnOk result (vec_len marks.new ≡ vec_len marks.old + length) }
+{
+    let before = marks.len();
+    if !reordered {
+        marks.resize(before + length, Mark::Compared)?;
+        return Ok(());
+    }
+    if length > 0 {
+        marks.resize(before + length - 1, Mark::Inside)?;
+        marks.push(Mark::Last)?;
+    }
+    Ok(())
 }
 
 // The text at this place of a run, where one stands there that was accepted.
@@ -85,19 +104,19 @@ fn compare_front(heap: Global, run: Run<'_>, other: Run<'_>) -> Result<Step, All
 // Lists with as many answers, front by front.
 fn walk_lists(heap: Global, mut run: Run<'_>, mut other: Run<'_>) -> Result<Likeness, AllocError>
     requires { AsLong (asked run) run.answers.now (asked other) other.answers.now }
-    ensures value { IfOk result (λ l. Walked l.alike l.reordered.items (asked run.entry) run.entry.answers.now (asked other.entry) other.entry.answers.now) }
+    ensures value { IfOk result (λ l. Walked l.alike l.marks.items (asked run.entry) run.entry.answers.now (asked other.entry) other.entry.answers.now) }
     ensures memory { IfErr result (λ _. 0 < length (asked run.entry)) }
 {
     let mut alike = true;
-    let mut reordered = Vec::new(heap);
+    let mut marks = Vec::new(heap);
     while !run.calls.is_empty() {
         let step = compare_front(heap, run, other)?;
         run = run.behind(step.length);
         other = other.behind(step.length);
         alike &= step.stretch.is_alike();
-        reordered.resize(reordered.len() + step.length, step.stretch.is_reordered())?;
+        add_marks(&mut marks, step.length, step.stretch.is_reordered())?;
     }
-    Ok(Likeness { alike, reordered })
+    Ok(Likeness { alike, marks })
 }
 
 // No list of two runs is longer than another.
@@ -115,14 +134,14 @@ pub(crate) fn compare_lists(
     run: Run<'_>,
     other: Run<'_>,
 ) -> Result<Likeness, AllocError>
-    ensures value { IfOk result (λ l. Compared l.alike l.reordered.items (asked run.entry) run.entry.answers.now (asked other.entry) other.entry.answers.now) }
-    ensures law { IfOk result (λ l. LawDecided l.alike l.reordered.items (asked run.entry) run.entry.answers.now (asked other.entry) other.entry.answers.now) }
+    ensures value { IfOk result (λ l. Compared l.alike l.marks.items (asked run.entry) run.entry.answers.now (asked other.entry) other.entry.answers.now) }
+    ensures law { IfOk result (λ l. LawDecided l.alike l.marks.items (asked run.entry) run.entry.answers.now (asked other.entry) other.entry.answers.now) }
     ensures memory { IfErr result (λ _. 0 < shortest (asked run.entry) run.entry.answers.now (asked other.entry) other.entry.answers.now) }
 {
     let n = run.len().min(other.len());
-    let Likeness { alike, reordered } = walk_lists(heap, run.cut(n), other.cut(n))?;
+    let Likeness { alike, marks } = walk_lists(heap, run.cut(n), other.cut(n))?;
     Ok(Likeness {
         alike: as_long(run, other) & alike,
-        reordered,
+        marks,
     })
 }

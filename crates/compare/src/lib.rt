@@ -1,17 +1,14 @@
-// What two runs have alike: the calls, the speeds, the answers.
+//! Two cabs run side by side: whether their runs are alike, and what differs.
 #![tactic(auto)]
 
 mod account;
 mod asked;
 mod compare;
-mod counts;
-mod hearing;
+mod marks;
 mod run;
-mod stretches;
-mod verdict;
+mod tally;
 
 pub use asked::same_asked;
-pub use compare::Likeness;
-pub use counts::Counts;
+pub use marks::Mark;
 pub use run::Run;
-pub use verdict::{Verdict, compare_runs};
+pub use tally::Tally;

@@ -1,7 +1,9 @@
 use Rattle.std.proofs.Common.{◌≡◌, ◌+◌, ◌<◌, ◌&&◌, ◌++◌, Bool, List, length, replicate, vec_items, vec_len, rules, sym, ap, ◌∙◌, subst₂, arith}
 use Rattle.std.proofs.lemmas.List.{length-map}
 use Rattle.compare.specs.Asked.{asked}
-use Rattle.compare.proofs.Walking.{Walks, walk_more, walk_past, marks_more, front_fits}
+use Rattle.compare.specs.Marks.{marks_of}
+use Rattle.compare.specs.declared.marks.Mark.{Mark}
+use Rattle.compare.proofs.Walking.{Walks, walk_more, walk_past, front_fits}
 use Rattle.compare.proofs.compare.walk_lists.Goals as goal
 
 pub loop-run-smaller : goal.loop-run-smaller
@@ -15,16 +17,15 @@ loop-run-smaller c =
 pub loop-run-preserved : goal.loop-run-preserved
 loop-run-preserved c =
     let r = c.in_ok-step.ensures in
-    let v = c.loop-run.reordered in
+    let v = c.loop-run.marks in
     let k = c.in_ok-step.step.length in
     let all = c.args.run in
     let others = c.args.other in
     let f = front_fits r c.behind-run.ensures.calls c.behind-run.ensures.answers c.behind-other.ensures.calls c.behind-other.ensures.answers c.loop-run.invariant.0 in
-    let s = c.in_ok-resize.ensures in
-    let marks = s.items ∙ marks_more (vec_items v) (vec_len v) c.len.result k c.is_reordered.result v.ok.0 c.len.ensures ∙ ap (λ m. vec_items v ++ replicate k m) c.is_reordered.ensures in (
+    let marks = c.in_ok-add_marks.ensures.items ∙ ap (λ m. vec_items v ++ marks_of m k) c.is_reordered.ensures in (
       f.0,
-      omega (arith, f.2, s.len, c.len.ensures, c.loop-run.invariant.1),
-      subst₂ (λ (t : Bool) (ms : List Bool). Walks (asked all) all.answers.now (asked others) others.answers.now (asked c.behind-run.result) c.behind-run.result.answers.now (asked c.behind-other.result) c.behind-other.result.answers.now (c.loop-run.alike && t) ms) (sym c.is_alike-alike.ensures) (sym marks)
+      omega (arith, f.2, c.in_ok-add_marks.ensures.len, c.loop-run.invariant.1),
+      subst₂ (λ (t : Bool) (ms : List Mark). Walks (asked all) all.answers.now (asked others) others.answers.now (asked c.behind-run.result) c.behind-run.result.answers.now (asked c.behind-other.result) c.behind-other.result.answers.now (c.loop-run.alike && t) ms) (sym c.is_alike-alike.ensures) (sym marks)
           (walk_more r c.behind-run.ensures.calls c.behind-run.ensures.answers c.behind-other.ensures.calls c.behind-other.ensures.answers c.loop-run.alike (vec_items v) c.loop-run.invariant.2),
     )
 
