@@ -1,10 +1,12 @@
 -- What a unit means, and a cab before and after its run, by what its train end means.
-use Rattle.std.specs.Prelude.{◌==◌, Bool, ◌&&◌, map, length, vec_items, vec_len}
+use Rattle.std.specs.Prelude.{◌≡◌, ◌==◌, Bool, ◌&&◌, map, length, vec_items, vec_len}
 use Rattle.train_end.specs.declared.end.TrainEnd.{Ghosts as EndMeaning}
 use Rattle.cab_unit.specs.Events.{said}
 use Rattle.cab_unit.specs.State.{State}
+use Rattle.cab_unit.specs.Steps.{answer_on}
 use Rattle.cab_unit.specs.View.{view as view_of}
 use Rattle.cab_unit.specs.declared.unit.Unit.{Unit as CabUnit}
+use Rattle.driver_desk.specs.declared.answer.Answer.{Answer}
 use Rattle.bench.specs.Both.{TwoRuns}
 use Rattle.bench.specs.Runs.{Run}
 use Rattle.bench.specs.declared.runs.Ready.{Ready}
@@ -28,5 +30,9 @@ run_by meaning c ran = record {
   last = view meaning ran.unit;
 }
 
-abbrev pub runs_by : {E F : Type 0} → EndMeaning E → EndMeaning F → Ready E → Ready F → Ran E × Ran F → TwoRuns
-runs_by one other c d ran = record { one = run_by one c ran.0; other = run_by other d ran.1 }
+abbrev pub runs : {E F : Type 0} → EndMeaning E → EndMeaning F → Ready E → Ready F → Ran E × Ran F → TwoRuns
+runs one other c d ran = record { one = run_by one c ran.0; other = run_by other d ran.1 }
+
+-- what the units showed when they were switched on
+abbrev pub ShownOn : TwoRuns → Answer → Answer → Type 0
+ShownOn rs a b = (a ≡ answer_on rs.one.before) × (b ≡ answer_on rs.other.before)

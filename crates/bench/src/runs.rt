@@ -2,11 +2,11 @@ ghost use Rattle.std.specs.Prelude.{◌≡◌, ◌<◌, ◌&&◌, true, map, len
 ghost use Rattle.cab_unit.specs.Events.{said, Event.take as taken};
 ghost use Rattle.cab_unit.specs.Refusing.{failed};
 ghost use Rattle.driver_desk.specs.declared.refusal.Refusal.TheVariants.{InSystemFailure};
-ghost use Rattle.cab_unit.specs.Steps.{answering, next, reply};
+ghost use Rattle.cab_unit.specs.Steps.{answer_on, answering, next, reply};
 ghost use Rattle.bench.specs.Both.{AsDefined, Each, Both};
 ghost use Rattle.bench.specs.Laws.{ByTheBook, ConfirmedOnce, SpeedsRead, AlikeEndEqual};
 ghost use Rattle.bench.specs.Runs.{after, answers as answers_of, speeds as speeds_of};
-ghost use Rattle.bench.specs.View.{view, has_room, run_by, runs_by};
+ghost use Rattle.bench.specs.View.{view, has_room, run_by, runs, ShownOn};
 
 use cab_unit::{Call, Unit};
 use driver_desk::{Answer, Draft, Level, Refusal, TrainRecord};
@@ -22,10 +22,11 @@ pub struct Ready<'a, E> {
     pub speeds: Vec<Option<u16>>,
 }
 
-/// A cab after its run: its unit, the answer to each call, and the speed in km/h that the unit's own end had after it,
-/// none where that was unknown. The caller switches the unit off.
+/// A cab after its run: its unit, what that showed when it was switched on, the answer to each call, and the speed in
+/// km/h that the unit's own end had after it, none where that was unknown. The caller switches the unit off.
 pub struct Ran<E> {
     pub unit: Unit<E>,
+    pub on: Answer,
     pub answers: Vec<Answer>,
     pub speeds: Vec<Option<u16>>,
 }
@@ -125,7 +126,8 @@ impl<'a, E: TrainEnd> Ready<'a, E> {
     // Switches a unit on at the end and makes the calls.
     fn run(self) -> Ran<E>
         requires { has_room self ≡ true }
-        ensures { AsDefined (run_by E.TrainEnd self.entry result) }
+        ensures run { AsDefined (run_by E.TrainEnd self.entry result) }
+        ensures on { result.on ≡ answer_on (E.speed_of self.entry.end) }
     {
         let Ready {
             end,
@@ -134,6 +136,7 @@ impl<'a, E: TrainEnd> Ready<'a, E> {
             mut speeds,
         } = self;
         let mut unit = Unit::switch_on(end);
+        let on = unit.answer();
         run_into(
             &mut unit,
             calls,
@@ -142,6 +145,7 @@ impl<'a, E: TrainEnd> Ready<'a, E> {
         );
         Ran {
             unit,
+            on,
             answers,
             speeds,
         }
@@ -156,11 +160,12 @@ pub fn run_lent<'a, 'b, E: TrainEnd, F: TrainEnd>(
     other: Ready<'b, F>,
 ) -> Result<(Ran<E>, Ran<F>), (Ready<'a, E>, Ready<'b, F>)>
     ensures fits { is_ok result ≡ (has_room one.entry && has_room other.entry) }
-    ensures runs { IfOk result (λ r. Each AsDefined (runs_by E.TrainEnd F.TrainEnd one.entry other.entry r)) }
-    ensures speeds { IfOk result (λ r. Each SpeedsRead (runs_by E.TrainEnd F.TrainEnd one.entry other.entry r)) }
-    ensures book { IfOk result (λ r. Each ByTheBook (runs_by E.TrainEnd F.TrainEnd one.entry other.entry r)) }
-    ensures entries { IfOk result (λ r. Each ConfirmedOnce (runs_by E.TrainEnd F.TrainEnd one.entry other.entry r)) }
-    ensures likeness { IfOk result (λ r. Both AlikeEndEqual (runs_by E.TrainEnd F.TrainEnd one.entry other.entry r)) }
+    ensures runs { IfOk result (λ r. Each AsDefined (runs E.TrainEnd F.TrainEnd one.entry other.entry r)) }
+    ensures on { IfOk result (λ r. ShownOn (runs E.TrainEnd F.TrainEnd one.entry other.entry r) r.0.on r.1.on) }
+    ensures speeds { IfOk result (λ r. Each SpeedsRead (runs E.TrainEnd F.TrainEnd one.entry other.entry r)) }
+    ensures book { IfOk result (λ r. Each ByTheBook (runs E.TrainEnd F.TrainEnd one.entry other.entry r)) }
+    ensures entries { IfOk result (λ r. Each ConfirmedOnce (runs E.TrainEnd F.TrainEnd one.entry other.entry r)) }
+    ensures likeness { IfOk result (λ r. Both AlikeEndEqual (runs E.TrainEnd F.TrainEnd one.entry other.entry r)) }
     ensures back { IfErr result (λ back. (back.0 ≡ one.entry) × (back.1 ≡ other.entry)) }
 {
     if !one.has_room() || !other.has_room() {
