@@ -20,7 +20,7 @@ use Rattle.compare.specs.declared.account.Surplus.{Surplus}
 use Rattle.compare.proofs.Events.{same_event, events_decide}
 use Rattle.compare.proofs.Keying.{by_words_total, words_equal, words_of, saying, keys_of_texts}
 use Rattle.compare.proofs.Shuffling.{tally, same-tally}
-use Rattle.compare.proofs.Tallies.{tally-parts, counted_rest, counts_shuffle}
+use Rattle.compare.proofs.Counts.{tally-parts, counted_rest, counts_shuffle}
 
 -- at equal words the same is found
 same_found : (m : BTreeMap TextKey Surplus) (k q : TextKey) → is_eq (by_key k q) ≡ true → get by_key m q ≡ get by_key m k

@@ -14,7 +14,7 @@ use Rattle.compare.specs.declared.marks.Mark.{Mark}
 use Rattle.compare.specs.Walked.{Loose, text_next, Front.same, Front.other, Front.stretch, Front.apart, Walked, Walked.ended, Walked.more, Compared, Compared.whole, Compared.cut}
 use Rattle.compare.proofs.Asking.{same-call}
 use Rattle.compare.proofs.Applying.{text_no_cycle, told-calls, opens-stretch}
-use Rattle.compare.proofs.Tallies.{tally-parts, SameCounts, counts_shuffles}
+use Rattle.compare.proofs.Counts.{tally-parts, SameCounts, counts_shuffles}
 use Rattle.compare.proofs.Events.{same_event, events_decide}
 use Rattle.compare.proofs.Shuffling.{tally, same-tally, shuffle_length}
 

@@ -1,10 +1,13 @@
 pub mod Asking
 pub mod Equal
 pub mod Shuffling
-pub mod Tallies
+pub mod Counts
 pub mod Events
 pub mod Keying
 pub mod Accounting
 pub mod Applying
 pub mod Deciding
 pub mod Walking
+pub mod Tallying
+pub mod Judging
+pub mod TwoCabs

@@ -10,10 +10,10 @@ use Rattle.cab_unit.specs.Events.{Event, Event.cycle, Event.order, Event.press, 
 use Rattle.cab_unit.specs.declared.call.Call.{Call}
 use Rattle.cab_unit.specs.declared.call.Call.TheVariants.{Cycle, Order, Press, Take}
 use Rattle.compare.specs.declared.asked.TextKey.{TextKey}
-use Rattle.compare.specs.declared.run.Run.{Run}
+use Rattle.compare.specs.declared.run.Answered.{Answered}
 
 -- what the calls of a run ask
-abbrev pub asked : Run → List Event
+abbrev pub asked : Answered → List Event
 asked r = map said r.calls.now
 
 -- a call without the block of a cycle

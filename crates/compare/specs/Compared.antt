@@ -30,6 +30,12 @@ one_equal t = record { compared = t.compared + 1; differing = t.differing; first
 abbrev pub one_differs : ℕ → Tally → Tally
 one_differs place t = record { compared = t.compared + 1; differing = t.differing + 1; first = first_of t.first place }
 
+-- the pair at a place is compared, where it is kept
+abbrev pub tally_with : ℕ → Bool → Bool → Tally → Tally
+tally_with place false equal t = t
+tally_with place true true t = one_equal t
+tally_with place true false t = one_differs place t
+
 -- the tally of two lists, of which the kept places are compared
 pub data Tallied {X : Type 0} : List Bool → List X → List X → Tally → Type 0 where
   nothing : Tallied [] [] [] none_compared

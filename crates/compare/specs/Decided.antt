@@ -5,7 +5,7 @@ use Rattle.cab_unit.specs.Facts.{Rising}
 use Rattle.driver_desk.specs.declared.answer.Answer.{Answer}
 use Rattle.bench.specs.Likeness.{told, Alike, AnswersAgree, left_open}
 use Rattle.messages.specs.Shown.{Display, shown_before, messages_from}
-use Rattle.messages.specs.Stretches.{LinesDiffer}
+use Rattle.messages.specs.Standing.{LinesDiffer}
 use Rattle.compare.specs.Compared.{AgreeWhere, sampled, Covers, Fitting}
 use Rattle.compare.specs.Marks.{opens, shown_kept}
 use Rattle.compare.specs.declared.marks.Mark.{Mark}

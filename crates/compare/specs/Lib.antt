@@ -4,3 +4,5 @@ pub mod Marks
 pub mod Walked
 pub mod Compared
 pub mod Decided
+pub mod Verdicts
+pub mod Cabs

@@ -1,7 +1,7 @@
 ghost use Rattle.std.specs.Prelude.{◌≡◌, Decides};
 ghost use Rattle.cab_unit.specs.Events.{said};
 ghost use Rattle.compare.specs.Asked.{text_key, unblocked};
-ghost use Rattle.cab_unit.specs.Events.{is_text};
+ghost use Rattle.cab_unit.specs.Events.{is_cycle};
 
 use cab_unit::Call;
 use telegram::Order;
@@ -33,10 +33,10 @@ pub(crate) fn text_key<'a>(call: &Call<'a>) -> Option<TextKey<'a>>
     }
 }
 
-pub(crate) fn is_text(call: &Call<'_>) -> bool
-    ensures { result ≡ is_text (said call.now) }
+pub(crate) fn is_cycle(call: &Call<'_>) -> bool
+    ensures { result ≡ is_cycle (said call.now) }
 {
-    matches!(*call, Call::Order(Order::Text { .. }))
+    matches!(*call, Call::Cycle(_))
 }
 
 // The same call, whatever the block of a cycle.

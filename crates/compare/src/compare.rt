@@ -6,7 +6,7 @@ ghost use Rattle.compare.specs.Walked.{Apart, AsLong, Compared, Front, Walked, i
 
 use crate::account::{Surplus, enter};
 use crate::asked::{TextKey, same_asked, text_key};
-use crate::run::Run;
+use crate::run::Answered;
 use crate::marks::{Mark, Stretch};
 use std::alloc::{AllocError, Global};
 use std::collections::BTreeMap;
@@ -38,7 +38,7 @@ fn add_marks(marks: &mut Vec<Mark>, length: usize, reordered: bool) -> Result<()
 }
 
 // The text at this place of a run, where one stands there that was accepted.
-fn text_at<'a>(run: Run<'a>, place: usize) -> Option<TextKey<'a>>
+fn text_at<'a>(run: Answered<'a>, place: usize) -> Option<TextKey<'a>>
     ensures found { is_some result ≡ text_next (drop place (asked run.entry)) (drop place run.entry.answers.now) }
     ensures key { IfSome result (λ k. take (place + 1) (asked run.entry) ≡ take place (asked run.entry) ++ (keyed k ∷ [])) }
 {
@@ -56,7 +56,7 @@ struct Step {
 }
 
 // The shortest stretch of accepted texts in which the same texts came, or all that both begin with.
-fn stretch_ahead(heap: Global, run: Run<'_>, other: Run<'_>) -> Result<Step, AllocError>
+fn stretch_ahead(heap: Global, run: Answered<'_>, other: Answered<'_>) -> Result<Step, AllocError>
     requires long { AsLong (asked run) run.answers.now (asked other) other.answers.now }
     requires texts { (text_next (asked run) run.answers.now && text_next (asked other) other.answers.now) ≡ true }
     requires differ { Apart 2 (asked run) (asked other) }
@@ -82,7 +82,7 @@ fn stretch_ahead(heap: Global, run: Run<'_>, other: Run<'_>) -> Result<Step, All
 }
 
 // One call of each run, or the accepted texts that both begin with.
-fn compare_front(heap: Global, run: Run<'_>, other: Run<'_>) -> Result<Step, AllocError>
+fn compare_front(heap: Global, run: Answered<'_>, other: Answered<'_>) -> Result<Step, AllocError>
     requires { (0 < length (asked run)) × AsLong (asked run) run.answers.now (asked other) other.answers.now }
     ensures { IfOk result (λ s. Front (is_alike s.stretch) (is_reordered s.stretch) s.length (asked run.entry) run.entry.answers.now (asked other.entry) other.entry.answers.now) }
 {
@@ -102,7 +102,7 @@ fn compare_front(heap: Global, run: Run<'_>, other: Run<'_>) -> Result<Step, All
 }
 
 // Lists with as many answers, front by front.
-fn walk_lists(heap: Global, mut run: Run<'_>, mut other: Run<'_>) -> Result<Likeness, AllocError>
+fn walk_lists(heap: Global, mut run: Answered<'_>, mut other: Answered<'_>) -> Result<Likeness, AllocError>
     requires { AsLong (asked run) run.answers.now (asked other) other.answers.now }
     ensures value { IfOk result (λ l. Walked l.alike l.marks.items (asked run.entry) run.entry.answers.now (asked other.entry) other.entry.answers.now) }
     ensures memory { IfErr result (λ _. 0 < length (asked run.entry)) }
@@ -120,7 +120,7 @@ fn walk_lists(heap: Global, mut run: Run<'_>, mut other: Run<'_>) -> Result<Like
 }
 
 // No list of two runs is longer than another.
-fn as_long(run: Run<'_>, other: Run<'_>) -> bool
+fn as_long(run: Answered<'_>, other: Answered<'_>) -> bool
     ensures { Decides result (AsLong (asked run.entry) run.entry.answers.now (asked other.entry) other.entry.answers.now) }
 {
     other.calls.len() == run.calls.len()
@@ -131,8 +131,8 @@ fn as_long(run: Run<'_>, other: Run<'_>) -> bool
 // Compares two runs as far as all four lists go.
 pub(crate) fn compare_lists(
     heap: Global,
-    run: Run<'_>,
-    other: Run<'_>,
+    run: Answered<'_>,
+    other: Answered<'_>,
 ) -> Result<Likeness, AllocError>
     ensures value { IfOk result (λ l. Compared l.alike l.marks.items (asked run.entry) run.entry.answers.now (asked other.entry) other.entry.answers.now) }
     ensures law { IfOk result (λ l. LawDecided l.alike l.marks.items (asked run.entry) run.entry.answers.now (asked other.entry) other.entry.answers.now) }

@@ -3,12 +3,15 @@
 
 mod account;
 mod asked;
+mod cabs;
 mod compare;
 mod marks;
 mod run;
 mod tally;
+mod verdict;
 
 pub use asked::same_asked;
+pub use cabs::{Compared, compare_cabs};
 pub use marks::Mark;
-pub use run::Run;
 pub use tally::Tally;
+pub use verdict::{Tallies, Verdict, same_message};

@@ -1,5 +1,5 @@
-ghost use Rattle.std.specs.Prelude.{◌≡◌, ◌≤◌, ◌<◌, ◌+◌, ◌^◌, if◌then◌else◌};
-ghost use Rattle.compare.specs.Compared.{none_compared, one_equal, one_differs};
+ghost use Rattle.std.specs.Prelude.{◌≡◌, ◌≤◌, ◌<◌, ◌+◌, ◌^◌};
+ghost use Rattle.compare.specs.Compared.{none_compared, tally_with};
 
 /// How many pairs were compared, how many of them differ, and the place of the first that differs, from 0.
 #[derive(Clone, Copy, PartialEq, Eq, Debug)]
@@ -20,15 +20,17 @@ impl Tally {
         }
     }
 
-    // The pair at a place was compared.
-    pub(crate) fn add(&mut self, place: usize, equal: bool)
+    // The pair at a place is compared, where it is kept.
+    pub(crate) fn add(&mut self, place: usize, kept: bool, equal: bool)
         requires within { (self.old.compared ≤ place) × (self.old.differing ≤ place) × (place + 1 < 2 ^ 64) }
-        ensures added { self.new ≡ (if equal then one_equal self.old else one_differs place self.old) }
+        ensures added { self.new ≡ tally_with place kept equal self.old }
     {
-        self.compared += 1;
-        if !equal {
-            self.differing += 1;
-            self.first = self.first.or(Some(place));
+        if kept {
+            self.compared += 1;
+            if !equal {
+                self.differing += 1;
+                self.first = self.first.or(Some(place));
+            }
         }
     }
 }

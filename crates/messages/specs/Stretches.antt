@@ -1,11 +1,12 @@
 -- Texts that come one after another: what a window shows behind them, in whatever order they came.
-use Rattle.std.specs.Prelude.{◌≡◌, ℕ, ◌+◌, ◌≤◌, Bool, true, false, not, List, [], ◌∷◌, length, filter, ◌==◌}
+use Rattle.std.specs.Prelude.{◌≡◌, ℕ, ◌+◌, ◌≤◌, true, false, not, List, [], ◌∷◌, length, filter, ◌==◌}
 use Rattle.std.specs.List.{AllByRecursion, list_any}
 use Rattle.ordering.specs.Shuffle.{Shuffle}
 use Rattle.telegram.specs.Format.{OrderValue, OrderValue.authority, OrderValue.level, OrderValue.text, OrderValue.withdrawal, OrderValue.stop, OrderValue.sign, OrderValue.permission}
 use Rattle.cab_unit.specs.Events.{Event, Event.cycle, Event.order, Event.press, Event.take, is_text}
 use Rattle.cab_unit.specs.Facts.{Rising}
 use Rattle.messages.specs.Shown.{ShownLine, shown_before, Display, with_order, top}
+use Rattle.messages.specs.Standing.{LinesDiffer}
 
 -- the number of a text; of any other call none is told
 abbrev pub order_text_number : OrderValue → ℕ
@@ -47,8 +48,8 @@ others es ls = filter (λ l. not (list_any (λ e. text_number e == l.number) es)
 abbrev pub Fits : List Event → Display → Type 0
 Fits es d = NumbersDiffer es × (length (others es d.lines) + length es ≤ 12)
 
--- two windows that hold the same lines, to which the same texts come, in whatever order: where the texts fit,
--- both show the same words on top behind them, and hold the same lines again
+-- two windows that hold the same lines, no two of one number, to which the same texts come, in whatever order:
+-- where the texts fit, both show the same words on top behind them, and hold the same lines again
 abbrev pub StretchLaw : Type 0
-StretchLaw = (d : Display) (es fs : List Event) → Rising shown_before d.lines → AllByRecursion (λ e. is_text e ≡ true) es → Shuffle es fs → Fits es d →
+StretchLaw = (d : Display) (es fs : List Event) → Rising shown_before d.lines → LinesDiffer d.lines → AllByRecursion (λ e. is_text e ≡ true) es → Shuffle es fs → Fits es d →
     (top (after_texts es d).lines ≡ top (after_texts fs d).lines) × (after_texts es d ≡ after_texts fs d)

@@ -1,0 +1,63 @@
+ghost use Rattle.std.specs.Prelude.{◌≡◌, ◌<◌, ◌+◌, ◌&&◌, length, is_ok, IfOk, IfErr};
+ghost use Rattle.bench.specs.Both.{AsDefined, Each, Both};
+ghost use Rattle.bench.specs.Laws.{ByTheBook, ConfirmedOnce, SpeedsRead, AlikeEndEqual};
+ghost use Rattle.bench.specs.View.{has_room, ShownOn};
+ghost use Rattle.compare.specs.Cabs.{ran, Judged};
+ghost use Rattle.compare.specs.Verdicts.{Concluded, Decided, Found};
+
+use crate::run::Run;
+use crate::verdict::{Verdict, compare_runs};
+use bench::{Ran, Ready, run_lent};
+use std::alloc::{AllocError, Global};
+use train_end::TrainEnd;
+
+/// Two cabs after their runs, and what is found of these; the want of memory for that leaves the runs.
+pub struct Compared<'a, E, F> {
+    pub one: Ran<E>,
+    pub other: Ran<F>,
+    pub verdict: Result<Verdict<'a>, AllocError>,
+}
+
+/// Runs two cabs and compares their runs. The caller switches the units off.
+///
+/// Where a cab has not as many places as calls, nothing is run, and both come back as they were.
+pub fn compare_cabs<'a, E: TrainEnd, F: TrainEnd>(
+    heap: Global,
+    one: Ready<'a, E>,
+    other: Ready<'a, F>,
+) -> Result<Compared<'a, E, F>, (Ready<'a, E>, Ready<'a, F>)>
+    ensures fits { is_ok result ≡ (has_room one.entry && has_room other.entry) }
+    ensures runs { IfOk result (λ c. Each AsDefined (ran E.TrainEnd F.TrainEnd one.entry other.entry c)) }
+    ensures on { IfOk result (λ c. ShownOn (ran E.TrainEnd F.TrainEnd one.entry other.entry c) c.one.on c.other.on) }
+    ensures speeds { IfOk result (λ c. Each SpeedsRead (ran E.TrainEnd F.TrainEnd one.entry other.entry c)) }
+    ensures book { IfOk result (λ c. Each ByTheBook (ran E.TrainEnd F.TrainEnd one.entry other.entry c)) }
+    ensures entries { IfOk result (λ c. Each ConfirmedOnce (ran E.TrainEnd F.TrainEnd one.entry other.entry c)) }
+    ensures likeness { IfOk result (λ c. Both AlikeEndEqual (ran E.TrainEnd F.TrainEnd one.entry other.entry c)) }
+    ensures found { IfOk result (λ c. IfOk c.verdict (λ v. Judged Found (ran E.TrainEnd F.TrainEnd one.entry other.entry c) v)) }
+    ensures decided { IfOk result (λ c. IfOk c.verdict (λ v. Judged Decided (ran E.TrainEnd F.TrainEnd one.entry other.entry c) v)) }
+    ensures concluded { IfOk result (λ c. IfOk c.verdict (λ v. Concluded (ran E.TrainEnd F.TrainEnd one.entry other.entry c) v)) }
+    ensures memory { IfOk result (λ c. IfErr c.verdict (λ _. 0 < length one.entry.calls.now + length other.entry.calls.now)) }
+    ensures back { IfErr result (λ back. (back.0 ≡ one.entry) × (back.1 ≡ other.entry)) }
+{
+    let calls = one.calls;
+    let other_calls = other.calls;
+    let (one, other) = run_lent(one, other)?;
+    let verdict = compare_runs(
+        heap,
+        Run {
+            calls,
+            answers: &one.answers,
+            speeds: &one.speeds,
+        },
+        Run {
+            calls: other_calls,
+            answers: &other.answers,
+            speeds: &other.speeds,
+        },
+    );
+    Ok(Compared {
+        one,
+        other,
+        verdict,
+    })
+}
