@@ -1,5 +1,5 @@
 -- How the rows of a list stand to its calls, and the calls of one cab to those of the other.
-use Rattle.std.specs.Prelude.{◌≡◌, ℕ, Bool, true, false, List, map, length, count_by}
+use Rattle.std.specs.Prelude.{◌≡◌, Bool, true, false, List, map, length, count_by}
 use Rattle.cab_unit.specs.Events.{unblocked}
 use Rattle.call_list.specs.declared.listed.Listed.{Listed}
 use Rattle.plan.specs.Calls.{calls_for}

@@ -23,7 +23,7 @@ impl Cab {
 
     // This cab's own one of the two blocks of a cycle.
     pub(crate) fn block_of<'a>(self, bus: &'a [u8], pulse: &'a [u8]) -> &'a [u8]
-        ensures { result.now ≡ block_for self bus.entry.now pulse.entry.now }
+        ensures { result.now ≡ block_for self bus.now pulse.now }
     {
         match self {
             Cab::Bus => bus,

@@ -1,4 +1,4 @@
-ghost use Rattle.std.specs.Prelude.{◌≡◌, ◌<◌, ◌++◌, [], ◌∷◌, map, length, IfOk, IfErr, OnOk};
+ghost use Rattle.std.specs.Prelude.{◌≡◌, ◌<◌, ◌+◌, ◌++◌, [], ◌∷◌, map, length, IfOk, IfErr, OnOk};
 ghost use Rattle.telegram.specs.Whole.{whole_of};
 ghost use Rattle.cab_unit.specs.Events.{said};
 ghost use Rattle.plan.specs.Calls.{calls_for, entry_calls, telegram_calls, list_or};
@@ -68,8 +68,8 @@ impl<'a> Plan<'a> {
     }
 
     fn add_entry(&mut self, heap: Global, cab: Cab, listed: &'a Listed) -> Result<(), AllocError>
-        ensures calls { OnOk result (map said self.new.calls.items ≡ map said self.old.calls.items ++ entry_calls cab listed.entry.now.entry) }
-        ensures rows { OnOk result (self.new.rows.items ≡ self.old.rows.items ++ line_rows listed.entry.now) }
+        ensures calls { OnOk result (map said self.new.calls.items ≡ map said self.old.calls.items ++ entry_calls cab listed.now.entry) }
+        ensures rows { OnOk result (self.new.rows.items ≡ self.old.rows.items ++ line_rows listed.now) }
     {
         let line = listed.line;
         match &listed.entry {
@@ -102,9 +102,9 @@ impl<'a> Plan<'a> {
 /// a record its taking where no number of it is refused, and an order from no telegram that order.
 /// Memory is wanting only where the list has a line; the list is then as before.
 pub fn plan_list<'a>(heap: Global, cab: Cab, listed: &'a [Listed]) -> Result<Plan<'a>, AllocError>
-    ensures calls { IfOk result (λ p. map said p.calls.items ≡ calls_for cab listed.entry.now) }
-    ensures rows { IfOk result (λ p. p.rows.items ≡ rows_for listed.entry.now) }
-    ensures memory { IfErr result (λ _. 0 < length listed.entry.now) }
+    ensures calls { IfOk result (λ p. map said p.calls.items ≡ calls_for cab listed.now) }
+    ensures rows { IfOk result (λ p. p.rows.items ≡ rows_for listed.now) }
+    ensures memory { IfErr result (λ _. 0 < length listed.now) }
 {
     let mut plan = Plan {
         calls: Vec::new(heap),
@@ -124,11 +124,11 @@ pub fn plan_lists<'a>(
     listed: &'a [Listed],
     second: Option<&'a [Listed]>,
 ) -> Result<Plans<'a>, AllocError>
-    ensures bus_calls { IfOk result (λ p. map said p.bus.calls.items ≡ calls_for Bus listed.entry.now) }
-    ensures bus_rows { IfOk result (λ p. p.bus.rows.items ≡ rows_for listed.entry.now) }
-    ensures pulse_calls { IfOk result (λ p. map said p.pulse.calls.items ≡ calls_for Pulse (list_or listed.entry.now second.entry)) }
-    ensures pulse_rows { IfOk result (λ p. p.pulse.rows.items ≡ rows_for (list_or listed.entry.now second.entry)) }
-    ensures memory { IfErr result (λ _. 0 < length listed.entry.now + length (list_or listed.entry.now second.entry)) }
+    ensures bus_calls { IfOk result (λ p. map said p.bus.calls.items ≡ calls_for Bus listed.now) }
+    ensures bus_rows { IfOk result (λ p. p.bus.rows.items ≡ rows_for listed.now) }
+    ensures pulse_calls { IfOk result (λ p. map said p.pulse.calls.items ≡ calls_for Pulse (list_or listed.now second.entry)) }
+    ensures pulse_rows { IfOk result (λ p. p.pulse.rows.items ≡ rows_for (list_or listed.now second.entry)) }
+    ensures memory { IfErr result (λ _. 0 < length listed.now + length (list_or listed.now second.entry)) }
 {
     let bus = plan_list(heap, Cab::Bus, listed)?;
     let pulse = plan_list(heap, Cab::Pulse, second.unwrap_or(listed))?;

@@ -1,15 +1,14 @@
 -- The laws of the plans, line by line.
-use Rattle.std.proofs.Common.{◌≡◌, ℕ, ◌+◌, zero, suc, Bool, cond, count_by, List, [], ◌∷◌, ◌++◌, map, length, vec_items, Some, None, Option, sym, refl, ap, ap₂, ◌∙◌, arith}
+use Rattle.std.proofs.Common.{◌≡◌, ℕ, ◌+◌, cond, count_by, List, [], ◌∷◌, ◌++◌, map, length, vec_items, Some, None, Option, sym, refl, ap₂, ◌∙◌, arith}
 use Rattle.std.proofs.lemmas.List.{map-append, length-append}
-use Rattle.std.proofs.lemmas.List.Sums.{sum_by-append}
-use Rattle.telegram.specs.Whole.{PlacedValue, WholeValue, read_whole}
+use Rattle.std.proofs.lemmas.List.Sums.{sum_by-append, sum_by-cons}
+use Rattle.telegram.specs.Whole.{PlacedValue, read_whole}
 use Rattle.driver_desk.specs.Records.{record_of, record_refusal}
 use Rattle.driver_desk.specs.declared.refusal.Refusal.{Refusal}
 use Rattle.driver_desk.specs.declared.train_record.TrainRecord.{TrainRecord}
-use Rattle.cab_unit.specs.Events.{Event, unblocked}
+use Rattle.cab_unit.specs.Events.{unblocked}
 use Rattle.call_list.specs.declared.entry.Entry.{Entry}
 use Rattle.call_list.specs.declared.entry.Entry.TheVariants.{Cycle, Telegram, Press, Record, Order}
-use Rattle.call_list.specs.declared.listed.Listed.{Listed}
 use Rattle.plan.specs.Calls.{order_call, record_calls, entry_calls, calls_for}
 use Rattle.plan.specs.Rows.{order_row, record_row, entry_rows, at_line, rows_for}
 use Rattle.plan.specs.Laws.{is_of_call, OneCallEach, SameButBlocks}
@@ -17,7 +16,6 @@ use Rattle.plan.specs.declared.cab.Cab.{Cab}
 use Rattle.plan.specs.declared.cab.Cab.TheVariants.{Bus, Pulse}
 use Rattle.plan.specs.declared.note.Note.{Note}
 use Rattle.plan.specs.declared.rows.Row.{Row}
-use Rattle.plan.specs.declared.rows.Told.{Told}
 use Rattle.plan.specs.declared.rows.Told.TheVariants as tells
 
 -- how many rows tell of a call
@@ -31,7 +29,10 @@ of_calls-append rows more = sum_by-append (λ (r : Row). cond (is_of_call r.told
 -- each order of a telegram has its row, and the row of the ending tells of no call
 telegram-rows : (n : ℕ) (os : List PlacedValue) (note : Note) → of_calls (map (at_line n) (map order_row os ++ (tells.Note note ∷ []))) ≡ length (map order_call os)
 telegram-rows n [] note = refl
-telegram-rows n (o ∷ os) note = omega (arith, telegram-rows n os note)
+telegram-rows n (o ∷ os) note =
+    let rest = map (at_line n) (map order_row os ++ (tells.Note note ∷ [])) in
+    let first : of_calls (at_line n (order_row o) ∷ rest) ≡ 1 + of_calls rest = sum_by-cons _ (at_line n (order_row o)) rest in
+    omega (arith, first, telegram-rows n os note)
 
 record-rows : (n : ℕ) (r : Option Refusal) (t : TrainRecord) → of_calls (at_line n (record_row r) ∷ []) ≡ length (record_calls r t)
 record-rows n None t = refl
