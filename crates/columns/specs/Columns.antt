@@ -1,5 +1,5 @@
 -- What stands in the columns of a tab-separated row behind the name of the call.
-use Rattle.std.specs.Prelude.{ℕ, List, [], ◌∷◌, ◌++◌, Ok, Err, Option, codes, decimal}
+use Rattle.std.specs.Prelude.{ℕ, List, [], ◌∷◌, Ok, Err, Option, codes, decimal}
 use Rattle.train_end.specs.Line.{line_number}
 use Rattle.telegram.specs.Modes.{mode_name}
 use Rattle.driver_desk.specs.Numbers.{level_number, outcome_number}

@@ -1,5 +1,5 @@
 -- In which column two answers differ first.
-use Rattle.std.specs.Prelude.{◌≡◌, ℕ, ◌<◌, Some, None, Option}
+use Rattle.std.specs.Prelude.{◌≡◌, ℕ, ◌<◌}
 use Rattle.driver_desk.specs.declared.answer.Answer.{Answer}
 use Rattle.columns.specs.declared.names.Column.{Column}
 use Rattle.columns.specs.declared.names.Column.TheVariants.{Outcome, Mode, Level, Brake, Buttons, Waiting, First, Raised, Acked, Withdrawn}
@@ -30,7 +30,6 @@ SamePart Raised a b = a.raised ≡ b.raised
 SamePart Acked a b = a.acknowledged ≡ b.acknowledged
 SamePart Withdrawn a b = a.withdrawn ≡ b.withdrawn
 
--- none where they are equal; else they differ in this column, and in none before it
-abbrev pub FirstDifference : Option Column → Answer → Answer → Type 0
-FirstDifference None a b = a ≡ b
-FirstDifference (Some c) a b = (SamePart c a b → ⊥) × ((d : Column) → column_place d < column_place c → SamePart d a b)
+-- two answers differ in this column, and in none before it
+abbrev pub DifferFirst : Column → Answer → Answer → Type 0
+DifferFirst c a b = (SamePart c a b → ⊥) × ((d : Column) → column_place d < column_place c → SamePart d a b)

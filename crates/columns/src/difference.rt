@@ -1,5 +1,5 @@
-ghost use Rattle.std.specs.Prelude.{Decides};
-ghost use Rattle.columns.specs.Difference.{FirstDifference, SamePart};
+ghost use Rattle.std.specs.Prelude.{◌≡◌, ◌↔◌, None, IfSome, Decides};
+ghost use Rattle.columns.specs.Difference.{DifferFirst, SamePart};
 
 use crate::names::{COLUMNS, Column};
 use driver_desk::Answer;
@@ -23,8 +23,10 @@ fn is_same(column: Column, one: &Answer, other: &Answer) -> bool
 }
 
 /// The first column in which two answers differ; none exactly where they are equal.
+#[tactic(auto, using(crate::proofs::Parts::same_each))]
 pub fn first_difference(one: &Answer, other: &Answer) -> Option<Column>
-    ensures { FirstDifference result one.now other.now }
+    ensures none { (result ≡ None) ↔ (one.now ≡ other.now) }
+    ensures some { IfSome result (λ c. DifferFirst c one.now other.now) }
 {
     for column in COLUMNS {
         if !is_same(column, one, other) {
