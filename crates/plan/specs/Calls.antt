@@ -6,12 +6,13 @@ use Rattle.telegram.specs.Whole.{PlacedValue, WholeValue, read_whole}
 use Rattle.driver_desk.specs.Records.{record_of, record_refusal}
 use Rattle.driver_desk.specs.declared.refusal.Refusal.{Refusal}
 use Rattle.driver_desk.specs.declared.train_record.TrainRecord.{TrainRecord}
-use Rattle.cab_unit.specs.Events.{Event, Event.cycle, Event.order, Event.press, Event.take}
+use Rattle.cab_unit.specs.Events.{Event, Event.cycle, Event.order, Event.press, Event.take, said}
 use Rattle.call_list.specs.declared.entry.Entry.{Entry}
 use Rattle.call_list.specs.declared.entry.Entry.TheVariants.{Cycle, Telegram, Press, Record, Order}
 use Rattle.call_list.specs.declared.listed.Listed.{Listed}
 use Rattle.plan.specs.declared.cab.Cab.{Cab}
 use Rattle.plan.specs.declared.cab.Cab.TheVariants.{Bus, Pulse}
+use Rattle.plan.specs.declared.lists.Plan.{Plan}
 
 abbrev pub cab_name : Cab → List ℕ
 cab_name Bus = codes "bus"
@@ -46,6 +47,10 @@ entry_calls cab (Order o) = order (value_of o) ∷ []
 abbrev pub calls_for : Cab → List Listed → List Event
 calls_for cab [] = []
 calls_for cab (l ∷ ls) = entry_calls cab l.entry ++ calls_for cab ls
+
+-- what the calls of a plan ask
+abbrev pub planned : Plan → List Event
+planned p = map said (vec_items p.calls)
 
 -- the second list where there is one, else the first
 abbrev pub list_or : List Listed → Option (Bor (List Listed)) → List Listed

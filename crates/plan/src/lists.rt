@@ -1,7 +1,7 @@
 ghost use Rattle.std.specs.Prelude.{◌≡◌, ◌<◌, ◌+◌, ◌++◌, [], ◌∷◌, map, length, IfOk, IfErr, OnOk};
 ghost use Rattle.telegram.specs.Whole.{whole_of};
 ghost use Rattle.cab_unit.specs.Events.{said};
-ghost use Rattle.plan.specs.Calls.{calls_for, entry_calls, telegram_calls, list_or};
+ghost use Rattle.plan.specs.Calls.{calls_for, entry_calls, list_or, planned, telegram_calls};
 ghost use Rattle.plan.specs.Rows.{at_line, line_rows, rows_for, telegram_rows};
 ghost use Rattle.plan.specs.declared.cab.Cab.TheVariants.{Bus, Pulse};
 ghost use Rattle.plan.specs.declared.rows.Told.TheVariants as tells;
@@ -45,7 +45,7 @@ impl<'a> Plan<'a> {
         call: Call<'a>,
         places: Option<Places>,
     ) -> Result<(), AllocError>
-        ensures calls { OnOk result (map said self.new.calls.items ≡ map said self.old.calls.items ++ (said call.entry ∷ [])) }
+        ensures calls { OnOk result (planned self.new ≡ planned self.old ++ (said call.entry ∷ [])) }
         ensures rows { OnOk result (self.new.rows.items ≡ self.old.rows.items ++ (at_line line (tells.Call places) ∷ [])) }
     {
         self.calls.push(call)?;
@@ -54,7 +54,7 @@ impl<'a> Plan<'a> {
 
     // The orders of a telegram are calls, up to its end or its first fault.
     fn add_reading(&mut self, line: usize, reading: &Reading<'a>) -> Result<(), AllocError>
-        ensures calls { OnOk result (map said self.new.calls.items ≡ map said self.old.calls.items ++ telegram_calls (whole_of reading.now)) }
+        ensures calls { OnOk result (planned self.new ≡ planned self.old ++ telegram_calls (whole_of reading.now)) }
         ensures rows { OnOk result (self.new.rows.items ≡ self.old.rows.items ++ map (at_line line) (telegram_rows (whole_of reading.now))) }
     {
         for placed in &reading.orders {
@@ -68,7 +68,7 @@ impl<'a> Plan<'a> {
     }
 
     fn add_entry(&mut self, heap: Global, cab: Cab, listed: &'a Listed) -> Result<(), AllocError>
-        ensures calls { OnOk result (map said self.new.calls.items ≡ map said self.old.calls.items ++ entry_calls cab listed.now.entry) }
+        ensures calls { OnOk result (planned self.new ≡ planned self.old ++ entry_calls cab listed.now.entry) }
         ensures rows { OnOk result (self.new.rows.items ≡ self.old.rows.items ++ line_rows listed.now) }
     {
         let line = listed.line;
@@ -102,7 +102,7 @@ impl<'a> Plan<'a> {
 /// a record its taking where no number of it is refused, and an order from no telegram that order.
 /// Memory is wanting only where the list has a line; the list is then as before.
 pub fn plan_list<'a>(heap: Global, cab: Cab, listed: &'a [Listed]) -> Result<Plan<'a>, AllocError>
-    ensures calls { IfOk result (λ p. map said p.calls.items ≡ calls_for cab listed.now) }
+    ensures calls { IfOk result (λ p. planned p ≡ calls_for cab listed.now) }
     ensures rows { IfOk result (λ p. p.rows.items ≡ rows_for listed.now) }
     ensures memory { IfErr result (λ _. 0 < length listed.now) }
 {
@@ -124,9 +124,9 @@ pub fn plan_lists<'a>(
     listed: &'a [Listed],
     second: Option<&'a [Listed]>,
 ) -> Result<Plans<'a>, AllocError>
-    ensures bus_calls { IfOk result (λ p. map said p.bus.calls.items ≡ calls_for Bus listed.now) }
+    ensures bus_calls { IfOk result (λ p. planned p.bus ≡ calls_for Bus listed.now) }
     ensures bus_rows { IfOk result (λ p. p.bus.rows.items ≡ rows_for listed.now) }
-    ensures pulse_calls { IfOk result (λ p. map said p.pulse.calls.items ≡ calls_for Pulse (list_or listed.now second.entry)) }
+    ensures pulse_calls { IfOk result (λ p. planned p.pulse ≡ calls_for Pulse (list_or listed.now second.entry)) }
     ensures pulse_rows { IfOk result (λ p. p.pulse.rows.items ≡ rows_for (list_or listed.now second.entry)) }
     ensures memory { IfErr result (λ _. 0 < length listed.now + length (list_or listed.now second.entry)) }
 {
