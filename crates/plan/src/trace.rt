@@ -1,4 +1,4 @@
-ghost use Rattle.std.specs.Prelude.{◌≡◌, false, ◌++◌, map, IfOk, OnOk};
+ghost use Rattle.std.specs.Prelude.{◌≡◌, ◌<◌, false, ◌++◌, map, length, IfOk, IfErr, OnOk};
 ghost use Rattle.plan.specs.Notes.{bound_behind, first_mark, note_bounds, note_trace, other_marks};
 
 use crate::note::Note;
@@ -42,12 +42,14 @@ fn next_mark(marks: &[bool]) -> (bool, &[bool])
 ///
 /// `inside` has a mark for each call, `true` where the next call goes on in the same stretch; where it ends, the marks are `false`.
 /// Behind such a call there is no bound: a stretch has one in front, and what stands between its calls counts as standing behind them.
+/// Memory is wanting only where there is a row.
 pub fn note_trace(
     heap: Global,
     rows: &[Row],
     inside: &[bool],
 ) -> Result<Vec<Option<u8>>, AllocError>
-    ensures { IfOk result (λ v. v.items ≡ note_trace false inside.now (map (λ r. r.told) rows.now)) }
+    ensures trace { IfOk result (λ v. v.items ≡ note_trace false inside.now (map (λ r. r.told) rows.now)) }
+    ensures memory { IfErr result (λ _. 0 < length rows.now) }
 {
     let mut trace = Vec::new(heap);
     let mut before = false;
