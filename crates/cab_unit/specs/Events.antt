@@ -1,5 +1,5 @@
 -- What a call asks.
-use Rattle.std.specs.Prelude.{ℕ, Bool, true, false, List}
+use Rattle.std.specs.Prelude.{ℕ, Bool, true, false, List, []}
 use Rattle.telegram.specs.Format.{OrderValue, OrderValue.authority, OrderValue.level, OrderValue.text, OrderValue.withdrawal, OrderValue.stop, OrderValue.sign, OrderValue.permission, value_of}
 use Rattle.cab_unit.specs.declared.call.Call.{Call}
 use Rattle.cab_unit.specs.declared.call.Call.TheVariants.{Cycle, Order, Press, Take}
@@ -16,6 +16,13 @@ said (Cycle block) = cycle block.now
 said (Order o) = order (value_of o)
 said (Press n) = press n
 said (Take t) = take t
+
+-- a call without the block of a cycle
+abbrev pub unblocked : Event → Event
+unblocked (cycle block) = cycle []
+unblocked (order o) = order o
+unblocked (press n) = press n
+unblocked (take t) = take t
 
 abbrev pub is_cycle : Event → Bool
 is_cycle (cycle block) = true

@@ -1,36 +1,49 @@
--- The columns of tab-separated rows behind the name of the call.
-use Rattle.std.specs.Prelude.{ℕ, List, [], ◌∷◌, ◌++◌, Ok, Err, codes, decimal}
+-- What stands in the columns of a tab-separated row behind the name of the call.
+use Rattle.std.specs.Prelude.{ℕ, List, [], ◌∷◌, Ok, Err, Option, codes, decimal}
 use Rattle.train_end.specs.Line.{line_number}
 use Rattle.telegram.specs.Modes.{mode_name}
 use Rattle.driver_desk.specs.Numbers.{level_number, outcome_number}
 use Rattle.driver_desk.specs.declared.answer.Answer.{Answer}
-use Rattle.columns.specs.Notes.{note_number}
-use Rattle.columns.specs.Words.{request_column}
-use Rattle.columns.specs.declared.note.Note.{Note}
-use Rattle.columns.specs.declared.note.Note.TheVariants.{Draft, Reading}
+use Rattle.plan.specs.Notes.{note_number}
+use Rattle.plan.specs.declared.note.Note.{Note}
+use Rattle.plan.specs.declared.note.Note.TheVariants.{Draft, Reading}
+use Rattle.columns.specs.Names.{tabbed}
+use Rattle.columns.specs.Words.{request_column, speed_column}
+use Rattle.columns.specs.declared.names.Column.{Column}
+use Rattle.columns.specs.declared.names.Column.TheVariants.{Outcome, Mode, Level, Brake, Buttons, Waiting, First, Raised, Acked, Withdrawn}
 
--- columns with a tab between two
-abbrev pub tabbed : List ℕ → List (List ℕ) → List ℕ
-tabbed first [] = first
-tabbed first (column ∷ rest) = first ++ (9 ∷ tabbed column rest)
+-- what one column tells of an answer
+abbrev pub column_words : Column → Answer → List ℕ
+column_words Outcome a = decimal (outcome_number a.outcome)
+column_words Mode a = mode_name a.mode
+column_words Level a = decimal (level_number a.level)
+column_words Brake a = decimal (line_number a.line)
+column_words Buttons a = decimal a.buttons
+column_words Waiting a = decimal a.waiting
+column_words First a = request_column a.first
+column_words Raised a = request_column a.raised
+column_words Acked a = request_column a.acknowledged
+column_words Withdrawn a = decimal a.withdrawn
 
-abbrev pub answer_columns : Answer → List ℕ
-answer_columns a = tabbed (decimal (outcome_number a.outcome)) (
-    mode_name a.mode
-    ∷ decimal (level_number a.level)
-    ∷ decimal (line_number a.line)
-    ∷ decimal a.buttons
-    ∷ decimal a.waiting
-    ∷ request_column a.first
-    ∷ request_column a.raised
-    ∷ request_column a.acknowledged
-    ∷ decimal a.withdrawn
+-- the columns of an answer, then the speed of the unit's own end
+abbrev pub answer_columns : Answer → Option ℕ → List ℕ
+answer_columns a speed = tabbed (column_words Outcome a) (
+    column_words Mode a
+    ∷ column_words Level a
+    ∷ column_words Brake a
+    ∷ column_words Buttons a
+    ∷ column_words Waiting a
+    ∷ column_words First a
+    ∷ column_words Raised a
+    ∷ column_words Acked a
+    ∷ column_words Withdrawn a
+    ∷ speed_column speed
     ∷ [])
 
--- a number for the outcome, a place or -, and - in every later column
+-- a number for the outcome, a place or -, and - in every later column, that of the message too
 abbrev pub with_no_answer : ℕ → List ℕ → List ℕ
 with_no_answer outcome place = tabbed (decimal outcome) (
-    place ∷ codes "-" ∷ codes "-" ∷ codes "-" ∷ codes "-" ∷ codes "-" ∷ codes "-" ∷ codes "-" ∷ codes "-" ∷ [])
+    place ∷ codes "-" ∷ codes "-" ∷ codes "-" ∷ codes "-" ∷ codes "-" ∷ codes "-" ∷ codes "-" ∷ codes "-" ∷ codes "-" ∷ codes "-" ∷ [])
 
 abbrev pub note_place : Note → List ℕ
 note_place (Draft refusal) = codes "-"

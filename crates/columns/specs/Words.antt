@@ -27,3 +27,8 @@ call_words (take t) = codes "take"
 abbrev pub request_column : Option Request → List ℕ
 request_column None = codes "-"
 request_column (Some r) = request_words r
+
+-- a speed in whole km/h, or ? where it is unknown
+abbrev pub speed_column : Option ℕ → List ℕ
+speed_column None = codes "?"
+speed_column (Some v) = decimal v

@@ -1,17 +1,17 @@
 ghost use Rattle.std.specs.Prelude.{Some};
 ghost use Rattle.columns.specs.Columns.{answer_columns, note_columns};
 
-use crate::note::Note;
-use crate::words::{RequestWords, outcome_number};
+use crate::words::{RequestWords, SpeedWords, outcome_number};
 use driver_desk::Answer;
+use plan::Note;
 use std::fmt;
 
-// An answer in its columns.
+/// An answer, and the speed of the unit's own end in km/h, 0 to 600, or none where it is unknown: the columns from `outcome` to `speed`.
 #[derive(Clone, Copy)]
-pub struct AnswerColumns<'a>(pub &'a Answer);
+pub struct AnswerColumns<'a>(pub &'a Answer, pub Option<u16>);
 
 impl fmt::Display for AnswerColumns<'_> {
-    ghost output = { λ w. Some (answer_columns w.0.now) };
+    ghost output = { λ w. Some (answer_columns w.0.now w.1) };
 
     fn fmt<W: fmt::Write>(&self, f: &mut fmt::Formatter<W>) -> fmt::Result {
         let answer = self.0;
@@ -25,15 +25,20 @@ impl fmt::Display for AnswerColumns<'_> {
         let raised = RequestWords(answer.raised);
         let acknowledged = RequestWords(answer.acknowledged);
         let withdrawn = answer.withdrawn;
+        let speed = SpeedWords(self.1);
         write!(
             f,
             "{outcome}\t{mode}\t{level}\t{line}\t{buttons}\t{waiting}"
         )?;
-        write!(f, "\t{first}\t{raised}\t{acknowledged}\t{withdrawn}")
+        write!(
+            f,
+            "\t{first}\t{raised}\t{acknowledged}\t{withdrawn}\t{speed}"
+        )
     }
 }
 
-// What is no call of the unit in those columns: a number for the outcome, a place or -, and - in every later column.
+/// What is no call of the unit, in the columns from `outcome` to `message`: its number in `outcome`, in `mode` the place in the
+/// telegram where it stands or -, and - in every later column.
 #[derive(Clone, Copy)]
 pub struct NoteColumns(pub Note);
 
@@ -47,6 +52,6 @@ impl fmt::Display for NoteColumns {
             Note::Reading(Err(refused)) => write!(f, "{}", refused.first)?,
             Note::Reading(Ok(place)) => write!(f, "{place}")?,
         }
-        f.write_str("\t-\t-\t-\t-\t-\t-\t-\t-")
+        f.write_str("\t-\t-\t-\t-\t-\t-\t-\t-\t-\t-")
     }
 }

@@ -1,10 +1,15 @@
-// What a row of the program tells, in words and in columns: a call, a request, an answer, and what is no call.
+//! What a row of the program tells, in words and in tab-separated columns: a call, a request, an answer, what is no call,
+//! and in which column two answers differ.
 #![tactic(auto)]
 
 mod answers;
-mod note;
+mod difference;
+mod names;
+mod values;
 mod words;
 
 pub use answers::{AnswerColumns, NoteColumns};
-pub use note::Note;
-pub use words::{CallWords, RequestWords, outcome_number};
+pub use difference::first_difference;
+pub use names::{COLUMNS, Column, HEADING, heading_stands};
+pub use values::ColumnValue;
+pub use words::{CallWords, RequestWords, SpeedWords, outcome_number};

@@ -1,14 +1,14 @@
 ghost use Rattle.std.specs.Prelude.{◌≡◌, Some};
 ghost use Rattle.driver_desk.specs.Numbers.{outcome_number};
 ghost use Rattle.cab_unit.specs.Events.{said};
-ghost use Rattle.columns.specs.Words.{call_words, request_column};
+ghost use Rattle.columns.specs.Words.{call_words, request_column, speed_column};
 
 use cab_unit::Call;
 use driver_desk::{Refusal, Request};
 use std::fmt;
 use telegram::Order;
 
-// A call in the words of a call list.
+/// A call in the words of a call list.
 #[derive(Clone, Copy)]
 pub struct CallWords<'a>(pub &'a Call<'a>);
 
@@ -34,7 +34,7 @@ impl fmt::Display for CallWords<'_> {
     }
 }
 
-// A request, or - where there is none.
+/// A request as CLASS:NUMBER@CYCLE with t or u for timed or untimed, or - where there is none.
 #[derive(Clone, Copy)]
 pub struct RequestWords(pub Option<Request>);
 
@@ -49,7 +49,22 @@ impl fmt::Display for RequestWords {
     }
 }
 
-// 0, or the number of the refusal.
+/// A speed in whole km/h, or ? where it is unknown.
+#[derive(Clone, Copy)]
+pub struct SpeedWords(pub Option<u16>);
+
+impl fmt::Display for SpeedWords {
+    ghost output = { λ w. Some (speed_column w.0) };
+
+    fn fmt<W: fmt::Write>(&self, f: &mut fmt::Formatter<W>) -> fmt::Result {
+        match self.0 {
+            None => f.write_str("?"),
+            Some(speed) => write!(f, "{speed}"),
+        }
+    }
+}
+
+/// 0 for a call that was accepted, or the number of the refusal.
 pub fn outcome_number(outcome: Option<Refusal>) -> u8
     ensures { result ≡ outcome_number outcome }
 {

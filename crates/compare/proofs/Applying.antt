@@ -2,7 +2,7 @@
 use Rattle.std.proofs.Common.{◌≡◌, ℕ, zero, suc, ◌+◌, ◌≤◌, Bool, true, false, cond, not, ◌&&◌, List, [], ◌∷◌, ◌++◌, map, length, take, drop, replicate, Some, None, Option, sym, refl, ap, ◌∙◌, subst, ap₂, subst₂, ⊎_elim, arith}
 use Rattle.std.proofs.lemmas.List.{length-take-le}
 use Rattle.std.proofs.lemmas.Bool.{true≢false, false≢true, cases_Bool}
-use Rattle.cab_unit.specs.Events.{Event, Event.cycle, Event.order, Event.press, Event.take as taken, is_cycle, is_text}
+use Rattle.cab_unit.specs.Events.{Event, Event.cycle, Event.order, Event.press, Event.take as taken, is_cycle, is_text, unblocked}
 use Rattle.driver_desk.specs.declared.answer.Answer.{Answer}
 use Rattle.ordering.specs.Shuffle.{Shuffle}
 use Rattle.bench.specs.Likeness.{Told, told, calls_of, AcceptedTexts, Alike, Alike.ended as nothing, Alike.cycles, Alike.other, Alike.texts as stretches, AnswersAgree, left_open}
@@ -10,7 +10,6 @@ use Rattle.messages.specs.Shown.{Display, after_call, after_calls, top, messages
 use Rattle.messages.specs.Stretches.{Fits, after_texts}
 use Rattle.messages.proofs.Runs.{after_calls_texts, rising_after, rising_after_calls, differ_after, differ_after_calls}
 use Rattle.messages.proofs.Stretch.{stretch_law}
-use Rattle.compare.specs.Asked.{unblocked}
 use Rattle.compare.specs.Compared.{AgreeWhere, sampled, Fitting}
 use Rattle.compare.specs.Decided.{Speeds, Stands, LawApplies}
 use Rattle.compare.specs.Marks.{is_open, is_inside, opens, shown_kept, stretch_marks}

@@ -4,8 +4,7 @@ use Rattle.std.proofs.lemmas.Bool.{true≢false}
 use Rattle.cab_unit.specs.Events.{Event, Event.cycle, Event.order, Event.press, Event.take}
 use Rattle.driver_desk.specs.declared.answer.Answer.{Answer}
 use Rattle.messages.specs.Shown.{Display, after_call}
-use Rattle.compare.specs.Asked.{unblocked}
-use Rattle.cab_unit.specs.Events.{is_cycle}
+use Rattle.cab_unit.specs.Events.{is_cycle, unblocked}
 
 -- without its block a call is a cycle where it was one
 cycle-unblocked : (e : Event) → is_cycle (unblocked e) ≡ is_cycle e

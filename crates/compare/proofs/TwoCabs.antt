@@ -10,7 +10,7 @@ use Rattle.bench.specs.Runs.{Run, run_of, out_by}
 use Rattle.cab_unit.specs.State.{State}
 use Rattle.cab_unit.specs.Steps.{next, reply, switched_on}
 use Rattle.messages.specs.Shown.{Display, dark, after_call, top, messages_from, messages_of}
-use Rattle.compare.specs.Asked.{unblocked}
+use Rattle.cab_unit.specs.Events.{unblocked}
 use Rattle.compare.specs.Compared.{AgreeWhere, sampled}
 use Rattle.compare.specs.Decided.{Speeds}
 use Rattle.compare.specs.Verdicts.{Lists, lists_in, Whole, told_in, Found, Decided, SameList, SpeedsEqual, Concluded}

@@ -5,13 +5,12 @@ use Rattle.std.proofs.lemmas.Bool.{and_parts, false≢true, cases_lt}
 use Rattle.cab_unit.specs.declared.call.Call.{Call}
 use Rattle.cab_unit.specs.Events.{Event, said}
 use Rattle.driver_desk.specs.declared.answer.Answer.{Answer}
-use Rattle.compare.specs.Asked.{unblocked}
 use Rattle.compare.specs.Decided.{LawApplies}
 use Rattle.compare.specs.Marks.{stretch_marks, marks_of}
 use Rattle.compare.specs.declared.marks.Mark.{Mark}
 use Rattle.compare.specs.declared.marks.Mark.TheVariants.{Inside, Last}
 use Rattle.driver_desk.specs.Answers.{is_accepted}
-use Rattle.cab_unit.specs.Events.{is_text}
+use Rattle.cab_unit.specs.Events.{is_text, unblocked}
 use Rattle.ordering.specs.Shuffle.{Shuffle}
 use Rattle.compare.specs.Walked.{Texts, Accepted, Loose, Apart, text_next, Within, Front, Front.same, Front.other, Front.stretch, Front.apart, Walked, Walked.ended, Walked.more, AsLong, shortest, Compared, Compared.whole, Compared.cut}
 use Rattle.compare.proofs.Applying.{walked_applies}

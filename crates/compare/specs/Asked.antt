@@ -1,12 +1,12 @@
 -- When two calls ask the same.
-use Rattle.std.specs.Prelude.{ℕ, Bool, List, [], map, Some, None, Option}
+use Rattle.std.specs.Prelude.{ℕ, Bool, List, map, Some, None, Option}
 use Rattle.std.specs.Cmp.Lexicographic.{slice_cmp}
 use Rattle.std.specs.Ordering.{ordering_then, nat_cmp, bool_cmp}
 use Rattle.std.specs.declared.cmp.Ordering.{Ordering}
 use Rattle.telegram.specs.Format.{OrderValue.text}
 use Rattle.telegram.specs.declared.orders.Order.{Order as OrderGiven}
 use Rattle.telegram.specs.declared.orders.Order.TheVariants.{Authority, Level, Text, TextWithdrawal, EmergencyStop, Sign, Permission}
-use Rattle.cab_unit.specs.Events.{Event, Event.cycle, Event.order, Event.press, Event.take, said}
+use Rattle.cab_unit.specs.Events.{Event, Event.order, said}
 use Rattle.cab_unit.specs.declared.call.Call.{Call}
 use Rattle.cab_unit.specs.declared.call.Call.TheVariants.{Cycle, Order, Press, Take}
 use Rattle.compare.specs.declared.asked.TextKey.{TextKey}
@@ -15,13 +15,6 @@ use Rattle.compare.specs.declared.run.Answered.{Answered}
 -- what the calls of a run ask
 abbrev pub asked : Answered → List Event
 asked r = map said r.calls.now
-
--- a call without the block of a cycle
-abbrev pub unblocked : Event → Event
-unblocked (cycle block) = cycle []
-unblocked (order o) = order o
-unblocked (press n) = press n
-unblocked (take t) = take t
 
 -- the text order that a key says: its number, whether it wants to be acknowledged, its bytes
 abbrev pub keyed : TextKey → Event

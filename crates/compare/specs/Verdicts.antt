@@ -9,7 +9,7 @@ use Rattle.bench.specs.Likeness.{Told, told, Alike, AnswersAgree, left_open}
 use Rattle.bench.specs.Runs.{Run}
 use Rattle.messages.specs.Shown.{dark, messages_of}
 use Rattle.messages.specs.Texts.{words}
-use Rattle.compare.specs.Asked.{unblocked}
+use Rattle.cab_unit.specs.Events.{unblocked}
 use Rattle.compare.specs.Compared.{Tallied, sampled, Covers, Fitting, unspeeded}
 use Rattle.compare.specs.Marks.{opens, kept, shown_kept}
 use Rattle.compare.specs.Walked.{Compared}

@@ -4,13 +4,12 @@ use Rattle.std.specs.Prelude.{◌≡◌, ℕ, suc, ◌<◌, ◌≤◌, min, Bool
 use Rattle.std.specs.List.{AllByRecursion}
 use Rattle.cab_unit.specs.Events.{Event}
 use Rattle.driver_desk.specs.declared.answer.Answer.{Answer}
-use Rattle.compare.specs.Asked.{unblocked}
 use Rattle.compare.specs.Marks.{marks_of}
 use Rattle.compare.specs.declared.marks.Mark.{Mark}
 use Rattle.compare.specs.declared.marks.Stretch.{Stretch}
 use Rattle.compare.specs.declared.marks.Stretch.TheVariants.{Same, Reordered, Other}
 use Rattle.driver_desk.specs.Answers.{is_accepted}
-use Rattle.cab_unit.specs.Events.{is_text}
+use Rattle.cab_unit.specs.Events.{is_text, unblocked}
 use Rattle.ordering.specs.Shuffle.{Shuffle}
 
 abbrev pub Texts : List Event → Type 0

@@ -1,7 +1,6 @@
 ghost use Rattle.std.specs.Prelude.{◌≡◌, Decides};
-ghost use Rattle.cab_unit.specs.Events.{said};
-ghost use Rattle.compare.specs.Asked.{text_key, unblocked};
-ghost use Rattle.cab_unit.specs.Events.{is_cycle};
+ghost use Rattle.cab_unit.specs.Events.{is_cycle, said, unblocked};
+ghost use Rattle.compare.specs.Asked.{text_key};
 
 use cab_unit::Call;
 use telegram::Order;

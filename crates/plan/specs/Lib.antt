@@ -1,0 +1,4 @@
+pub mod Calls
+pub mod Rows
+pub mod Notes
+pub mod Laws

@@ -1,0 +1,9 @@
+ghost use Rattle.plan.specs.Laws.{OneCallEach, SameButBlocks};
+
+/// Laws of the definitions: as many rows tell of a call as there are calls,
+/// and what one list asks of the two cabs is the same up to the blocks of the cycles.
+#[tactic(auto, using(crate::proofs::Lines::one_call_each, crate::proofs::Lines::same_but_blocks))]
+pub fn plans_stand()
+    ensures one_call_each { OneCallEach }
+    ensures same_but_blocks { SameButBlocks }
+{}
