@@ -4,7 +4,7 @@ use Rattle.cab_unit.specs.Events.{Event}
 use Rattle.cab_unit.specs.State.{State}
 use Rattle.cab_unit.specs.Steps.{switched_on}
 use Rattle.driver_desk.specs.declared.answer.Answer.{Answer}
-use Rattle.bench.specs.Both.{AsDefined}
+use Rattle.bench.specs.Both.{AsDefined, TwoRuns, Each, Laws}
 use Rattle.bench.specs.Laws.{ByTheBook, ConfirmedOnce, SpeedsRead, AlikeEndEqual}
 use Rattle.bench.specs.Runs.{after, answers, speeds, Run, run_of}
 use Rattle.bench.proofs.Balance.{book_law}
@@ -37,3 +37,13 @@ module _ {r : Run} (d : AsDefined r) where
   -- and it ends as another that is like it
   pub defined_alike : {t : Run} → AsDefined t → AlikeEndEqual r t
   defined_alike {t} d' = subst₂ AlikeEndEqual (sym d) (sym d') (likeness_law r.reads t.reads r.before t.before r.calls t.calls)
+
+-- the laws of two runs that are as defined
+pub defined_laws : (rs : TwoRuns) → Each AsDefined rs → Laws rs
+defined_laws rs d = record {
+  defined = d;
+  speeds = (defined_read d.0, defined_read d.1);
+  book = (defined_booked d.0, defined_booked d.1);
+  entries = (defined_confirmed d.0, defined_confirmed d.1);
+  likeness = defined_alike d.0 d.1;
+}

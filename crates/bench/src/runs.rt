@@ -3,8 +3,7 @@ ghost use Rattle.cab_unit.specs.Events.{said, Event.take as taken};
 ghost use Rattle.cab_unit.specs.Refusing.{failed};
 ghost use Rattle.driver_desk.specs.declared.refusal.Refusal.TheVariants.{InSystemFailure};
 ghost use Rattle.cab_unit.specs.Steps.{answer_on, answering, next, reply};
-ghost use Rattle.bench.specs.Both.{AsDefined, Each, Both};
-ghost use Rattle.bench.specs.Laws.{ByTheBook, ConfirmedOnce, SpeedsRead, AlikeEndEqual};
+ghost use Rattle.bench.specs.Both.{AsDefined, Laws};
 ghost use Rattle.bench.specs.Runs.{after, answers as answers_of, speeds as speeds_of};
 ghost use Rattle.bench.specs.View.{view, has_room, run_by, runs, ShownOn};
 
@@ -160,12 +159,8 @@ pub fn run_lent<'a, 'b, E: TrainEnd, F: TrainEnd>(
     other: Ready<'b, F>,
 ) -> Result<(Ran<E>, Ran<F>), (Ready<'a, E>, Ready<'b, F>)>
     ensures fits { is_ok result ≡ (has_room one.entry && has_room other.entry) }
-    ensures runs { IfOk result (λ r. Each AsDefined (runs E.TrainEnd F.TrainEnd one.entry other.entry r)) }
+    ensures laws { IfOk result (λ r. Laws (runs E.TrainEnd F.TrainEnd one.entry other.entry r)) }
     ensures on { IfOk result (λ r. ShownOn (runs E.TrainEnd F.TrainEnd one.entry other.entry r) r.0.on r.1.on) }
-    ensures speeds { IfOk result (λ r. Each SpeedsRead (runs E.TrainEnd F.TrainEnd one.entry other.entry r)) }
-    ensures book { IfOk result (λ r. Each ByTheBook (runs E.TrainEnd F.TrainEnd one.entry other.entry r)) }
-    ensures entries { IfOk result (λ r. Each ConfirmedOnce (runs E.TrainEnd F.TrainEnd one.entry other.entry r)) }
-    ensures likeness { IfOk result (λ r. Both AlikeEndEqual (runs E.TrainEnd F.TrainEnd one.entry other.entry r)) }
     ensures back { IfErr result (λ back. (back.0 ≡ one.entry) × (back.1 ≡ other.entry)) }
 {
     if !one.has_room() || !other.has_room() {

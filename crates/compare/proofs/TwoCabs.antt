@@ -3,7 +3,7 @@ use Rattle.std.proofs.Common.{◌≡◌, ℕ, suc, ◌+◌, ◌≤◌, Bool, tru
 use Rattle.std.proofs.lemmas.Bool.{cases_Bool}
 use Rattle.cab_unit.specs.Events.{Event, is_cycle}
 use Rattle.driver_desk.specs.declared.answer.Answer.{Answer}
-use Rattle.bench.specs.Both.{AsDefined, Each, Both, TwoRuns}
+use Rattle.bench.specs.Both.{AsDefined, Each, TwoRuns, Laws}
 use Rattle.bench.specs.Laws.{AlikeEndEqual, told_of}
 use Rattle.bench.specs.Likeness.{Told, told, Alike, Alike.ended as nothing, Alike.cycles, Alike.other, AnswersAgree}
 use Rattle.bench.specs.Runs.{Run, run_of, out_by}
@@ -13,7 +13,7 @@ use Rattle.messages.specs.Shown.{Display, dark, after_call, top, messages_from, 
 use Rattle.cab_unit.specs.Events.{unblocked}
 use Rattle.compare.specs.Compared.{AgreeWhere, sampled}
 use Rattle.compare.specs.Decided.{Speeds}
-use Rattle.compare.specs.Verdicts.{Lists, lists_in, Whole, told_in, Found, Decided, SameList, SpeedsEqual, Concluded}
+use Rattle.compare.specs.Verdicts.{Lists, lists_in, Whole, told_in, Found, Decided, SameList, SpeedsEqual, Concluded, VerdictOf}
 use Rattle.compare.specs.declared.verdict.Verdict.{Verdict}
 use Rattle.compare.proofs.Asking.{same-cycles, same-call, same_behind}
 use Rattle.compare.proofs.Judging.{compared_length, compared_long, then_none, told-unspeeded, none_of, nones_agree, length-nones}
@@ -69,7 +69,7 @@ one_shown d es fs as' bs u a = subst (λ cs. messages_from d es as' ≡ messages
         let same = same_behind e f x d c in
         ap (λ b. top b.lines ∷ messages_from b es as') same ∙ ap (λ l. top (after_call f x d).lines ∷ l) (here (after_call f x d) es fs as' rest)
 
-module _ (rs : TwoRuns) (v : Verdict) (r : Each AsDefined rs) (law : Both AlikeEndEqual rs) (f : Found (lists_in rs.one) (lists_in rs.other) v) (d : Decided (lists_in rs.one) (lists_in rs.other) v) where
+module _ (rs : TwoRuns) (v : Verdict) (r : Each AsDefined rs) (law : AlikeEndEqual rs.one rs.other) (f : Found (lists_in rs.one) (lists_in rs.other) v) (d : Decided (lists_in rs.one) (lists_in rs.other) v) where
   concluded : Concluded rs v
   concluded = record {
     answers = λ e s. let k = d.shown e s.1 in k.2 (law s.0 k.0).answers;
@@ -102,8 +102,11 @@ module _ (rs : TwoRuns) (v : Verdict) (r : Each AsDefined rs) (law : Both AlikeE
           let k = one_alike rs.one.calls rs.other.calls rs.one.answers rs.other.answers rs.one.speeds rs.other.speeds u o.0 p.0 (o.1, p.1) samples in
           k.1 (law s.0 k.0).answers
 
--- what is concluded of the verdict on two runs, where there is one
-pub conclude : (rs : TwoRuns) {X : Type 0} (w : Result Verdict X) {one other : Lists} → one ≡ lists_in rs.one → other ≡ lists_in rs.other → Each AsDefined rs → Both AlikeEndEqual rs →
-    IfOk w (λ v. Found one other v) → IfOk w (λ v. Decided one other v) → IfOk w (λ v. Concluded rs v)
-conclude rs (Ok v) p q r law f d = concluded rs v r law (subst₂ (λ x y. Found x y v) p q f) (subst₂ (λ x y. Decided x y v) p q d)
-conclude rs (Err e) p q r law f d = tt
+-- the verdict on two cabs, where there is one
+pub judged : (rs : TwoRuns) {X : Type 0} (w : Result Verdict X) {one other : Lists} → one ≡ lists_in rs.one → other ≡ lists_in rs.other → Laws rs →
+    IfOk w (λ v. Found one other v) → IfOk w (λ v. Decided one other v) → IfOk w (λ v. VerdictOf rs v)
+judged rs (Ok v) p q law f d =
+    let f' = subst₂ (λ x y. Found x y v) p q f in
+    let d' = subst₂ (λ x y. Decided x y v) p q d in
+    record { found = f'; decided = d'; concluded = concluded rs v law.defined law.likeness f' d' }
+judged rs (Err e) p q law f d = tt

@@ -84,3 +84,9 @@ pub record Concluded (rs : TwoRuns) (v : Verdict) : Type 0 where
   pub one_list_alike : SameList rs → v.alike ≡ true
   pub one_list_answers : SameList rs → SpeedsEqual rs v → rs.one.answers ≡ rs.other.answers
   pub one_list_messages : SameList rs → SpeedsEqual rs v → shown_words (vec_items v.messages) ≡ shown_words (vec_items v.other_messages)
+
+-- the verdict on two cabs
+pub record VerdictOf (rs : TwoRuns) (v : Verdict) : Type 0 where
+  pub found : Found (lists_in rs.one) (lists_in rs.other) v
+  pub decided : Decided (lists_in rs.one) (lists_in rs.other) v
+  pub concluded : Concluded rs v

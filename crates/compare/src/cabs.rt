@@ -1,9 +1,8 @@
 ghost use Rattle.std.specs.Prelude.{◌≡◌, ◌<◌, ◌+◌, ◌&&◌, length, is_ok, IfOk, IfErr};
-ghost use Rattle.bench.specs.Both.{AsDefined, Each, Both};
-ghost use Rattle.bench.specs.Laws.{ByTheBook, ConfirmedOnce, SpeedsRead, AlikeEndEqual};
+ghost use Rattle.bench.specs.Both.{Laws};
 ghost use Rattle.bench.specs.View.{has_room, ShownOn};
-ghost use Rattle.compare.specs.Cabs.{ran, Judged};
-ghost use Rattle.compare.specs.Verdicts.{Concluded, Decided, Found};
+ghost use Rattle.compare.specs.Cabs.{ran};
+ghost use Rattle.compare.specs.Verdicts.{VerdictOf};
 
 use crate::run::Run;
 use crate::verdict::{Verdict, compare_runs};
@@ -27,15 +26,9 @@ pub fn compare_cabs<'a, E: TrainEnd, F: TrainEnd>(
     other: Ready<'a, F>,
 ) -> Result<Compared<'a, E, F>, (Ready<'a, E>, Ready<'a, F>)>
     ensures fits { is_ok result ≡ (has_room one.entry && has_room other.entry) }
-    ensures runs { IfOk result (λ c. Each AsDefined (ran E.TrainEnd F.TrainEnd one.entry other.entry c)) }
+    ensures laws { IfOk result (λ c. Laws (ran E.TrainEnd F.TrainEnd one.entry other.entry c)) }
     ensures on { IfOk result (λ c. ShownOn (ran E.TrainEnd F.TrainEnd one.entry other.entry c) c.one.on c.other.on) }
-    ensures speeds { IfOk result (λ c. Each SpeedsRead (ran E.TrainEnd F.TrainEnd one.entry other.entry c)) }
-    ensures book { IfOk result (λ c. Each ByTheBook (ran E.TrainEnd F.TrainEnd one.entry other.entry c)) }
-    ensures entries { IfOk result (λ c. Each ConfirmedOnce (ran E.TrainEnd F.TrainEnd one.entry other.entry c)) }
-    ensures likeness { IfOk result (λ c. Both AlikeEndEqual (ran E.TrainEnd F.TrainEnd one.entry other.entry c)) }
-    ensures found { IfOk result (λ c. IfOk c.verdict (λ v. Judged Found (ran E.TrainEnd F.TrainEnd one.entry other.entry c) v)) }
-    ensures decided { IfOk result (λ c. IfOk c.verdict (λ v. Judged Decided (ran E.TrainEnd F.TrainEnd one.entry other.entry c) v)) }
-    ensures concluded { IfOk result (λ c. IfOk c.verdict (λ v. Concluded (ran E.TrainEnd F.TrainEnd one.entry other.entry c) v)) }
+    ensures verdict { IfOk result (λ c. IfOk c.verdict (λ v. VerdictOf (ran E.TrainEnd F.TrainEnd one.entry other.entry c) v)) }
     ensures memory { IfOk result (λ c. IfErr c.verdict (λ _. 0 < length one.entry.calls.now + length other.entry.calls.now)) }
     ensures back { IfErr result (λ back. (back.0 ≡ one.entry) × (back.1 ≡ other.entry)) }
 {
