@@ -14,6 +14,7 @@ use telegram::Mode;
 use train_end::{BrakeLine, TrainEnd};
 
 /// A cab before its run: its end, the calls that it is to get, and a place for the answer to each and for the speed after it.
+#[derive(Drop)]
 pub struct Ready<'a, E> {
     pub end: E,
     pub calls: &'a [Call<'a>],

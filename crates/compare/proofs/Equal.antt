@@ -35,7 +35,7 @@ bare_decides : (D : Declared) → Bare D.parts → (a b : D.D) → Decides (same
 bare_decides D bare a b = (same_true D bare a b, true_same D a b)
 
 -- at an option of what is decided
-option_decides : {X : Type 0} (E : X → X → Bool) → ((x y : X) → Decides (E x y) (x ≡ y)) → (x y : Option X) → Decides (option_eq E x y) (x ≡ y)
+pub option_decides : {X : Type 0} (E : X → X → Bool) → ((x y : X) → Decides (E x y) (x ≡ y)) → (x y : Option X) → Decides (option_eq E x y) (x ≡ y)
 option_decides E each None None = (λ _. refl, λ _. refl)
 option_decides E each None (Some y) = (λ h. absurd (false≢true h), λ e. cc)
 option_decides E each (Some x) None = (λ h. absurd (false≢true h), λ e. cc)

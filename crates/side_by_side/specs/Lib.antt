@@ -1,0 +1,3 @@
+pub mod Status
+pub mod Findings
+pub mod Cabs

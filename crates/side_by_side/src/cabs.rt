@@ -1,0 +1,100 @@
+ghost use Rattle.std.specs.Prelude.{◌≡◌, vec_items, Ok, IfOk, IfErr, Decides};
+ghost use Rattle.bench.specs.Both.{Laws};
+ghost use Rattle.bench.specs.View.{ShownOn};
+ghost use Rattle.side_by_side.specs.Cabs.{OneListAgrees, Planned, other_rows_of, plans_of, ran, rows_of, status_of};
+ghost use Rattle.side_by_side.specs.Findings.{FindingOf, notes_of};
+
+use crate::finding::{Finding, notes_agree};
+use crate::ready::ReadyCabs;
+use crate::status::Status;
+use bench::{Ran, Ready};
+use compare::{Compared, Verdict, compare_cabs};
+use plan::Plans;
+use std::alloc::{AllocError, Global};
+use train_end::TrainEnd;
+
+/// Both cabs after their runs, and what is found of these; the want of memory for that leaves the runs.
+pub struct BothCabs<'a, E, F> {
+    pub bus: Ran<E>,
+    pub pulse: Ran<F>,
+    pub finding: Result<Finding<'a>, AllocError>,
+}
+
+// What is found beside a verdict.
+fn find<'a>(
+    heap: Global,
+    plans: &Plans<'_>,
+    verdict: Result<Verdict<'a>, AllocError>,
+) -> Result<Finding<'a>, AllocError>
+    ensures verdict { IfOk result (λ f. verdict.entry ≡ Ok f.verdict) }
+    ensures notes { IfOk result (λ f. Decides f.notes_agree (notes_of (vec_items f.verdict.marks) (rows_of plans.now) ≡ notes_of (vec_items f.verdict.marks) (other_rows_of plans.now))) }
+{
+    let verdict = verdict?;
+    let notes_agree = notes_agree(heap, &verdict.marks, &plans.bus.rows, &plans.pulse.rows)?;
+    Ok(Finding {
+        verdict,
+        notes_agree,
+    })
+}
+
+impl<'a, E: TrainEnd + Drop, F: TrainEnd + Drop> ReadyCabs<'a, E, F> {
+    /// Both cabs with what is asked of them, on these ends, with the places that they want.
+    /// Where memory is wanting, the ends come back.
+    pub fn new(
+        heap: Global,
+        plans: &'a Plans<'a>,
+        bus: E,
+        pulse: F,
+    ) -> Result<ReadyCabs<'a, E, F>, (E, F)>
+        ensures plans { IfOk result (λ c. plans_of c ≡ plans.entry.now) }
+        ensures ends { IfOk result (λ c. (c.bus.end ≡ bus) × (c.pulse.end ≡ pulse)) }
+        ensures back { IfErr result (λ ends. (ends.0 ≡ bus) × (ends.1 ≡ pulse)) }
+    {
+        let bus = match Ready::new(heap, bus, &plans.bus.calls) {
+            Ok(ready) => ready,
+            Err(end) => return Err((end, pulse)),
+        };
+        match Ready::new(heap, pulse, &plans.pulse.calls) {
+            Ok(pulse) => Ok(ReadyCabs { plans, bus, pulse }),
+            Err(end) => Err((bus.end, end)),
+        }
+    }
+
+    /// Runs both cabs and compares what they were asked, what they answered, and what they show.
+    /// The caller switches the units off.
+    pub fn run(self, heap: Global) -> BothCabs<'a, E, F>
+        ensures planned { Planned (plans_of self.entry) (ran E.TrainEnd F.TrainEnd self.entry result) }
+        ensures laws { Laws (ran E.TrainEnd F.TrainEnd self.entry result) }
+        ensures on { ShownOn (ran E.TrainEnd F.TrainEnd self.entry result) result.bus.on result.pulse.on }
+        ensures finding { IfOk result.finding (λ f. FindingOf (ran E.TrainEnd F.TrainEnd self.entry result) (rows_of (plans_of self.entry)) (other_rows_of (plans_of self.entry)) f) }
+        ensures one_list { OneListAgrees (plans_of self.entry) (ran E.TrainEnd F.TrainEnd self.entry result) result }
+    {
+        let ReadyCabs { plans, bus, pulse } = self;
+        let Ok(Compared { one, other, verdict }) = compare_cabs(heap, bus, pulse) else {
+            unreachable!()
+        };
+        let finding = find(heap, plans, verdict);
+        BothCabs {
+            bus: one,
+            pulse: other,
+            finding,
+        }
+    }
+}
+
+impl<E, F> BothCabs<'_, E, F> {
+    /// The status of the runs: `Trouble` where neither cab was asked for a call or nothing could be found for want of
+    /// memory, `Agree` where the lists are alike and nothing that is compared differs, and else `Differ`.
+    pub fn status(&self) -> Status
+        ensures { result ≡ status_of self.now }
+    {
+        if self.bus.answers.is_empty() && self.pulse.answers.is_empty() {
+            return Status::Trouble;
+        }
+        match &self.finding {
+            Ok(finding) if finding.agrees() => Status::Agree,
+            Ok(_) => Status::Differ,
+            Err(_) => Status::Trouble,
+        }
+    }
+}
