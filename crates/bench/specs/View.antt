@@ -24,7 +24,7 @@ abbrev pub run_by : {E : Type 0} → EndMeaning E → Ready E → Ran E → Run
 run_by meaning c ran = record {
   reads = meaning.reading;
   before = meaning.speed_of c.end;
-  calls = map said c.calls.now;
+  calls = map said ran.calls.now;
   answers = vec_items ran.answers;
   speeds = vec_items ran.speeds;
   last = view meaning ran.unit;

@@ -15,18 +15,19 @@ use train_end::{BrakeLine, TrainEnd};
 
 /// A cab before its run: its end, the calls that it is to get, and a place for the answer to each and for the speed after it.
 #[derive(Drop)]
-pub struct Ready<'a, E> {
+pub struct Ready<'p, 'a, E> {
     pub end: E,
-    pub calls: &'a [Call<'a>],
+    pub calls: &'p [Call<'a>],
     pub answers: Vec<Answer>,
     pub speeds: Vec<Option<u16>>,
 }
 
-/// A cab after its run: its unit, what that showed when it was switched on, the answer to each call, and the speed in
-/// km/h that the unit's own end had after it, none where that was unknown. The caller switches the unit off.
-pub struct Ran<E> {
+/// A cab after its run: its unit, what that showed when it was switched on, the calls, the answer to each, and the speed
+/// in km/h that the unit's own end had after it, none where that was unknown. The caller switches the unit off.
+pub struct Ran<'p, 'a, E> {
     pub unit: Unit<E>,
     pub on: Answer,
+    pub calls: &'p [Call<'a>],
     pub answers: Vec<Answer>,
     pub speeds: Vec<Option<u16>>,
 }
@@ -97,9 +98,9 @@ fn run_into<E: TrainEnd>(
     }
 }
 
-impl<'a, E: TrainEnd> Ready<'a, E> {
+impl<'p, 'a, E: TrainEnd> Ready<'p, 'a, E> {
     /// A cab at this end with these calls, with the places that it wants. Where memory is wanting, the end comes back.
-    pub fn new(heap: Global, end: E, calls: &'a [Call<'a>]) -> Result<Ready<'a, E>, E>
+    pub fn new(heap: Global, end: E, calls: &'p [Call<'a>]) -> Result<Ready<'p, 'a, E>, E>
         ensures end { IfOk result (λ c. c.end ≡ end) }
         ensures calls { IfOk result (λ c. c.calls ≡ calls.entry) }
         ensures room { IfOk result (λ c. has_room c ≡ true) }
@@ -124,9 +125,10 @@ impl<'a, E: TrainEnd> Ready<'a, E> {
     }
 
     // Switches a unit on at the end and makes the calls.
-    fn run(self) -> Ran<E>
+    fn run(self) -> Ran<'p, 'a, E>
         requires { has_room self ≡ true }
         ensures run { AsDefined (run_by E.TrainEnd self.entry result) }
+        ensures calls { result.calls ≡ self.entry.calls }
         ensures on { result.on ≡ answer_on (E.speed_of self.entry.end) }
     {
         let Ready {
@@ -146,6 +148,7 @@ impl<'a, E: TrainEnd> Ready<'a, E> {
         Ran {
             unit,
             on,
+            calls,
             answers,
             speeds,
         }
@@ -155,13 +158,14 @@ impl<'a, E: TrainEnd> Ready<'a, E> {
 /// Runs two cabs: switches a unit on at the end of each, and makes its calls. The places come back with the answers and speeds.
 ///
 /// Where a cab has not as many places as calls, nothing is run, and both come back as they were.
-pub fn run_lent<'a, 'b, E: TrainEnd, F: TrainEnd>(
-    one: Ready<'a, E>,
-    other: Ready<'b, F>,
-) -> Result<(Ran<E>, Ran<F>), (Ready<'a, E>, Ready<'b, F>)>
+pub fn run_lent<'p, 'a, 'q, 'b, E: TrainEnd, F: TrainEnd>(
+    one: Ready<'p, 'a, E>,
+    other: Ready<'q, 'b, F>,
+) -> Result<(Ran<'p, 'a, E>, Ran<'q, 'b, F>), (Ready<'p, 'a, E>, Ready<'q, 'b, F>)>
     ensures fits { is_ok result ≡ (has_room one.entry && has_room other.entry) }
     ensures laws { IfOk result (λ r. Laws (runs E.TrainEnd F.TrainEnd one.entry other.entry r)) }
     ensures on { IfOk result (λ r. ShownOn (runs E.TrainEnd F.TrainEnd one.entry other.entry r) r.0.on r.1.on) }
+    ensures calls { IfOk result (λ r. (r.0.calls ≡ one.entry.calls) × (r.1.calls ≡ other.entry.calls)) }
     ensures back { IfErr result (λ back. (back.0 ≡ one.entry) × (back.1 ≡ other.entry)) }
 {
     if !one.has_room() || !other.has_room() {

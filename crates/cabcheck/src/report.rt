@@ -1,109 +1,128 @@
 use crate::failure::Failure;
-use crate::plan::{Cab, Plan};
-use crate::side::{Side, Sides};
+use crate::notes::compare_notes;
+use crate::sides::{Side, Sides};
+use crate::summary::print_summary;
 use crate::table::print_table;
 use crate::tsv::print_tsv;
-use bench::{Ran, run_both};
+use bench::Ran;
 use call_list::Listed;
-use compare::{Counts, Verdict, compare_runs};
+use driver_desk::Answer;
+use plan::{Cab, Plan, Plans, plan_lists};
+use side_by_side::{BothCabs, Finding, ReadyCabs, Status};
 use std::alloc::Global;
-use std::io;
 use std::io::Write;
-use train_end::{BusEnd, PulseEnd};
+use train_end::{BusEnd, PulseEnd, TrainEnd};
 
-// Runs a list in both cabs, or the second in the pulse cab where there is one, and prints what came of it.
-// Answers whether both made as many calls and all answers that are compared agree.
-pub fn report_runs<W: Write + Drop>(
-    out: &mut W,
-    heap: Global,
-    tsv: bool,
-    listed: &[Listed],
-    second: Option<&[Listed]>,
-) -> Result<bool, Failure<'static>> {
-    let bus = Plan::of_list(heap, Cab::Bus, listed)?;
-    let pulse = Plan::of_list(heap, Cab::Pulse, second.unwrap_or(listed))?;
+const NOTHING_COMPARED: &str =
+    "cabcheck: neither cab was asked for a call, so nothing was compared";
+
+// What is kept of a cab whose unit is switched off.
+#[derive(Drop)]
+struct Kept {
+    on: Answer,
+    answers: Vec<Answer>,
+    speeds: Vec<Option<u16>>,
+}
+
+fn switch_off<E: TrainEnd + Drop>(ran: Ran<'_, '_, E>) -> Kept {
     let Ran {
-        one,
-        other,
+        unit,
+        on,
+        calls: _,
         answers,
-        other_answers,
-    } = run_both(
-        heap,
-        BusEnd::new(),
-        PulseEnd::new(),
-        &bus.calls,
-        &pulse.calls,
-    )
-    .map_err(|_not_run| Failure::NoMemory)?;
-    let _bus_end = one.switch_off();
-    let _pulse_end = other.switch_off();
-    let sides = Sides {
-        bus: Side::new(BusEnd::new(), &bus, &answers),
-        pulse: Side::new(PulseEnd::new(), &pulse, &other_answers),
-    };
-    report_sides(out, heap, tsv, second.is_some(), &sides)
+        speeds,
+    } = ran;
+    let _end = unit.switch_off();
+    Kept {
+        on,
+        answers,
+        speeds,
+    }
 }
 
-// Compares the answers of both cabs and prints what came of it, as rows or as the table with its last lines.
-// Answers whether both made as many calls and all answers that are compared agree.
-fn report_sides<W: Write + Drop>(
+// What one cab was asked and what came of it.
+fn side<'p, 'a>(
+    cab: Cab,
+    plan: &'p Plan<'a>,
+    kept: &'p Kept,
+    messages: &'p [Option<&'a [u8]>],
+) -> Side<'p, 'a> {
+    Side {
+        cab,
+        rows: &plan.rows,
+        calls: &plan.calls,
+        on: &kept.on,
+        answers: &kept.answers,
+        speeds: &kept.speeds,
+        messages,
+    }
+}
+
+// Prints what came of both runs, and says so where nothing was compared.
+fn print_sides<W: Write + Drop, S: Write + Drop>(
     out: &mut W,
+    err: &mut S,
     heap: Global,
     tsv: bool,
-    two_lists: bool,
     sides: &Sides<'_, '_>,
-) -> Result<bool, Failure<'static>> {
-    let Sides { bus, pulse } = sides;
-    let verdict = compare_runs(heap, BusEnd::new(), bus.run(), PulseEnd::new(), pulse.run())?;
+    finding: &Finding<'_>,
+    status: Status,
+) -> Result<(), Failure<'static>> {
+    let verdict = &finding.verdict;
+    let notes = compare_notes(heap, sides, &verdict.marks)?;
     if tsv {
-        print_tsv(out, Cab::Bus, bus)?;
-        print_tsv(out, Cab::Pulse, pulse)?;
+        print_tsv(out, sides)?;
     } else {
-        print_table(out, heap, sides, &verdict.likeness)?;
-        print_verdict(out, two_lists, sides, &verdict)?;
+        print_table(out, heap, sides, &verdict.marks, &notes)?;
     }
-    Ok(verdict.counts.differing == 0 && bus.answers.len() == pulse.answers.len())
+    if status == Status::Trouble {
+        out.flush()?;
+        writeln!(err, "{NOTHING_COMPARED}")?;
+    } else if tsv {
+        out.flush()?;
+        print_summary(err, sides, verdict, &notes, status)?;
+    } else {
+        print_summary(out, sides, verdict, &notes, status)?;
+        out.flush()?;
+    }
+    err.flush()?;
+    Ok(())
 }
 
-// How far the two runs agree. Of two lists also whether what is promised of alike runs applies here.
-fn print_verdict<W: Write>(
+// Runs a list in both cabs, or the second in the pulse cab where there is one, and prints what came of it: the table with its
+// last lines, or rows on `out` and the last lines on `err`. Answers how the runs compare.
+pub fn report_runs<'l, W: Write + Drop, S: Write + Drop>(
     out: &mut W,
-    two_lists: bool,
-    sides: &Sides<'_, '_>,
-    verdict: &Verdict,
-) -> io::Result<()> {
-    let Verdict {
-        likeness,
-        unequal,
-        counts: Counts {
-            compared,
-            differing,
-        },
-    } = verdict;
-    writeln!(out, "the speeds differ after {unequal} calls")?;
-    if two_lists {
-        let lists = if likeness.alike {
-            "the same"
-        } else {
-            "not the same"
-        };
-        let speeds = if *unequal == 0 { "equal" } else { "not equal" };
-        writeln!(
-            out,
-            "the lists are {lists} up to blocks and the order of neighbouring texts; the speeds were {speeds}"
-        )?;
-    }
-    let calls = sides.bus.answers.len();
-    let others = sides.pulse.answers.len();
-    write!(
-        out,
-        "{calls} calls in the bus cab, {others} in the pulse cab, {compared} answers compared: "
+    err: &mut S,
+    heap: Global,
+    tsv: bool,
+    listed: &'l [Listed],
+    second: Option<&'l [Listed]>,
+) -> Result<Status, Failure<'static>> {
+    let plans = plan_lists(heap, &*listed, second)?;
+    let ready = ReadyCabs::new(heap, &plans, BusEnd::new(), PulseEnd::new()).map_err(
+        |_ends| Failure::NoMemory,
     )?;
-    if *differing > 0 {
-        writeln!(out, "{differing} differ")
-    } else if calls != others {
-        writeln!(out, "all agree, but one cab has more calls")
-    } else {
-        writeln!(out, "all agree")
-    }
+    let both = ready.run(heap);
+    let status = both.status();
+    let BothCabs {
+        bus,
+        pulse,
+        finding,
+    } = both;
+    let bus = switch_off(bus);
+    let pulse = switch_off(pulse);
+    let finding = finding?;
+    let sides = Sides {
+        bus: side(Cab::Bus, &plans.bus, &bus, &finding.verdict.messages),
+        pulse: side(
+            Cab::Pulse,
+            &plans.pulse,
+            &pulse,
+            &finding.verdict.other_messages,
+        ),
+        two_lists: second.is_some(),
+    };
+    print_sides(out, err, heap, tsv, &sides, &finding, status)?;
+    Ok(status)
 }

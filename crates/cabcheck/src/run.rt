@@ -3,7 +3,8 @@ use crate::input::read_source;
 use crate::options::Options;
 use crate::report::report_runs;
 use call_list::{Listed, read_list};
-use std::io::{BufWriter, Write};
+use side_by_side::Status;
+use std::io::BufWriter;
 
 // The calls of a list.
 fn load<'n>(rt: &HostRuntime, name: &'n str) -> Result<Vec<Listed>, Failure<'n>> {
@@ -11,8 +12,8 @@ fn load<'n>(rt: &HostRuntime, name: &'n str) -> Result<Vec<Listed>, Failure<'n>>
     read_list(rt.alloc(), &text).map_err(|fault| Failure::of_list(name, fault))
 }
 
-// Runs the lists in both cabs and prints what came of it; answers whether the answers agree.
-pub fn run_options<'o>(rt: &HostRuntime, options: &'o Options) -> Result<bool, Failure<'o>> {
+// Runs the lists in both cabs and prints what came of it; answers how the runs compare.
+pub fn run_options<'o>(rt: &HostRuntime, options: &'o Options) -> Result<Status, Failure<'o>> {
     let heap = rt.alloc();
     let listed = load(rt, options.list.as_deref().unwrap_or("-"))?;
     let second = options
@@ -21,7 +22,13 @@ pub fn run_options<'o>(rt: &HostRuntime, options: &'o Options) -> Result<bool, F
         .map(|name| load(rt, name))
         .transpose()?;
     let mut out = BufWriter::new(heap, rt.stdout())?;
-    let agree = report_runs(&mut out, heap, options.tsv, &listed, second.as_deref())?;
-    out.flush()?;
-    Ok(agree)
+    let mut err = BufWriter::new(heap, rt.stderr())?;
+    report_runs(
+        &mut out,
+        &mut err,
+        heap,
+        options.tsv,
+        &listed,
+        second.as_deref(),
+    )
 }

@@ -1,65 +1,48 @@
-use crate::messages::{FREE, Messages, ROWS};
-use crate::plan::{Cab, Row, Told};
-use crate::side::{Answered, Sides};
+use crate::line::Line;
+use crate::notes::NotesCompared;
+use crate::sides::{Answered, Entry, Item, Sides};
+use crate::words::{Message, Untold, Words};
 use cab_unit::Call;
-use columns::{CallWords, Note, RequestWords, outcome_number};
-use compare::{Likeness, same_asked};
+use columns::{COLUMNS, CallWords, ColumnValue, RequestWords, outcome_number, same_part};
+use compare::{Mark, same_asked, same_message};
 use driver_desk::Answer;
 use itertools::{EitherOrBoth, Itertools};
+use plan::{Note, Places};
 use std::alloc::Global;
 use std::io::Write;
-use std::{fmt, io, slice};
-use telegram::{Placed, Refused};
-use train_end::{BusEnd, PulseEnd};
+use std::{fmt, io};
+use telegram::Refused;
 
-// What stands behind the requests: the places of a telegram's order, or what the two ends read in the blocks of a cycle.
-// Blank is a case of its own, since it is printed too: an Option in a struct, as below, would be one type more for the same three arms.
+// How wide the columns are that stand in front of a call.
+const MARK_WIDTH: usize = 6;
+
+const LINE_WIDTH: usize = 7;
+
+const CAB_WIDTH: usize = 6;
+
+const CALL_WIDTH: usize = 14;
+
+const FIRST_WIDTH: usize = 14;
+
+// What stands behind the requests: the places of a telegram's order, or what the two ends mean after a cycle.
 #[derive(Clone, Copy)]
-enum Column<'c> {
+enum Column {
     Blank,
-    Placed(Placed<'c>),
+    Placed(Places),
     Speeds {
         bus: Option<u16>,
         pulse: Option<u16>,
     },
 }
 
-impl Column<'_> {
-    // What the two ends read, where both rows tell of cycles.
-    fn of_cycles(told: &Told<Answered<'_>>, other: &Told<Answered<'_>>) -> Self {
-        match (*told, *other) {
-            (
-                Told::Call(
-                    Answered {
-                        call: &Call::Cycle(bus),
-                        ..
-                    },
-                ),
-                Told::Call(
-                    Answered {
-                        call: &Call::Cycle(pulse),
-                        ..
-                    },
-                ),
-            ) => Column::Speeds {
-                bus: BusEnd::read(bus),
-                pulse: PulseEnd::read(pulse),
-            },
-            _ => Column::Blank,
-        }
-    }
-}
-
-impl fmt::Display for Column<'_> {
+impl fmt::Display for Column {
     fn fmt<W: fmt::Write>(&self, f: &mut fmt::Formatter<W>) -> fmt::Result {
         match *self {
             Column::Blank => f.write_str("             "),
-            Column::Placed(Placed { first, after, .. }) => write!(f, " {first:>4} to {after:<4}"),
+            Column::Placed(Places { first, after }) => write!(f, " {first:>4} to {after:<4}"),
             Column::Speeds { bus, pulse } => {
                 let sign = if bus == pulse { "= " } else { "<>" };
-                let bus = Speed(bus);
-                let pulse = Speed(pulse);
-                write!(f, " {bus} {sign} {pulse}")
+                write!(f, " {} {sign} {}", Speed(bus), Speed(pulse))
             }
         }
     }
@@ -78,22 +61,6 @@ impl fmt::Display for Speed {
     }
 }
 
-// The words of the top message in the last column, which is empty where there is none.
-#[derive(Clone, Copy)]
-struct Message<'s>(Option<&'s [u8]>);
-
-impl fmt::Display for Message<'_> {
-    fn fmt<W: fmt::Write>(&self, f: &mut fmt::Formatter<W>) -> fmt::Result {
-        if let Some(words) = self.0 {
-            f.write_str("   ")?;
-            for byte in words {
-                f.write_char(*byte as char)?;
-            }
-        }
-        Ok(())
-    }
-}
-
 // The words of a note in its last columns.
 #[derive(Clone, Copy)]
 struct NoteWords(Note);
@@ -108,206 +75,358 @@ impl fmt::Display for NoteWords {
     }
 }
 
-// The same call with the same answer, or the same of what is no call.
-fn same_told(told: &Told<Answered<'_>>, other: &Told<Answered<'_>>) -> bool {
-    match (*told, *other) {
-        (Told::Call(one), Told::Call(other)) => {
-            same_asked(one.call, other.call) && one.answer == other.answer
-        }
-        (Told::Note(note), Told::Note(other)) => note == other,
-        _ => false,
-    }
+// What is said of two rows beside each other, or of one alone, in the column in front.
+#[derive(Clone, Copy, PartialEq, Eq)]
+enum Said {
+    Nothing,
+    // Something that is compared differs.
+    Differ,
+    // The calls lie in a stretch of texts that came in another order, and nothing that is compared differs.
+    Order,
+    // The calls are not the same, and nothing that is compared differs.
+    Call,
 }
 
-// The same answer, to whatever call.
-fn same_answer(told: &Told<Answered<'_>>, other: &Told<Answered<'_>>) -> bool {
-    match (*told, *other) {
-        (Told::Call(one), Told::Call(other)) => one.answer == other.answer,
-        _ => false,
+impl Said {
+    fn word(self) -> &'static str {
+        match self {
+            Said::Nothing => "",
+            Said::Differ => "differ",
+            Said::Order => "order",
+            Said::Call => "call",
+        }
     }
 }
 
 // Two rows that stand beside each other, or one alone.
-type Pair<'b, 'p> = EitherOrBoth<Row<Answered<'b>>, Row<Answered<'p>>>;
+type Pair<'p, 'a> = EitherOrBoth<Entry<'p, 'a>, Entry<'p, 'a>>;
 
-// What stands behind two rows that do not tell the same. What is no call is not compared.
+// What is found of two calls at one place.
 #[derive(Clone, Copy)]
-enum Mark {
-    NotCompared,
-    Reordered,
-    OtherCall,
-    Differ,
+struct Found {
+    mark: Mark,
+    same_call: bool,
+    same_answer: bool,
+    same_message: bool,
 }
 
-impl Mark {
-    fn of_rows(compared: bool, reordered: bool, same_answer: bool) -> Mark {
-        match (compared, reordered, same_answer) {
-            (false, _, _) => Mark::NotCompared,
-            (true, true, _) => Mark::Reordered,
-            (true, false, true) => Mark::OtherCall,
-            (true, false, false) => Mark::Differ,
+impl Found {
+    fn of_calls(marks: &[Mark], one: &Answered<'_, '_>, other: &Answered<'_, '_>) -> Found {
+        Found {
+            mark: marks.get(one.place).copied().unwrap_or(Mark::Compared),
+            same_call: same_asked(one.call, other.call),
+            same_answer: one.answer == other.answer,
+            same_message: same_message(one.message, other.message),
         }
+    }
+
+    fn answer_differs(&self) -> bool {
+        !self.mark.is_open() && !self.same_answer
+    }
+
+    fn message_differs(&self) -> bool {
+        !self.mark.is_inside() && !self.same_message
+    }
+
+    fn said(&self) -> Said {
+        if self.answer_differs() || self.message_differs() {
+            Said::Differ
+        } else if self.mark.is_open() {
+            Said::Order
+        } else if self.same_call {
+            Said::Nothing
+        } else {
+            Said::Call
+        }
+    }
+
+    // One row tells of both.
+    fn is_same(&self) -> bool {
+        self.same_call && self.same_answer && self.same_message
     }
 }
 
-impl fmt::Display for Mark {
-    fn fmt<W: fmt::Write>(&self, f: &mut fmt::Formatter<W>) -> fmt::Result {
-        match self {
-            Mark::NotCompared => Ok(()),
-            Mark::Reordered => f.write_str("  ~ another order"),
-            Mark::OtherCall => f.write_str("  ~ another call"),
-            Mark::Differ => f.write_str("  < differ"),
-        }
-    }
-}
-
-// Where the rows are printed, and the heap for words that are padded.
+// Where the rows are printed, and the line that is put together.
 #[derive(Drop)]
 struct Table<'o, W> {
     out: &'o mut W,
-    heap: Global,
+    line: Line,
+    two_lists: bool,
 }
 
 impl<W: Write> Table<'_, W> {
-    fn print_answer(
+    // The columns in front of what a row tells: the mark, the lines and the cab.
+    fn begin(
         &mut self,
-        line: usize,
+        said: Said,
+        bus: Option<usize>,
+        pulse: Option<usize>,
         cab: &str,
-        call: &str,
-        column: Column<'_>,
-        answer: &Answer,
     ) -> io::Result<()> {
+        self.line.left(said.word(), MARK_WIDTH)?;
+        if self.two_lists {
+            self.put_number(bus)?;
+            self.put_number(pulse)?;
+        } else {
+            self.put_number(bus.or(pulse))?;
+        }
+        self.line.put(' ')?;
+        self.line.left(cab, CAB_WIDTH)
+    }
+
+    fn put_number(&mut self, number: Option<usize>) -> io::Result<()> {
+        match number {
+            Some(line) => self.line.put(format_args!(" {line:>6}")),
+            None => self.line.put("      -"),
+        }
+    }
+
+    fn put_answer(&mut self, answer: &Answer, column: Column) -> io::Result<()> {
         let outcome = outcome_number(answer.outcome);
         let mode = answer.mode.name();
         let level = answer.level.number();
         let brake = answer.line.number();
+        self.line.put(format_args!(" {outcome:>3}  {mode:<4} {level:>5} {brake:>5}"))?;
         let buttons = answer.buttons;
         let waiting = answer.waiting;
-        let first = RequestWords(answer.first);
-        let first = format!(in self.heap; "{first}")?;
-        write!(
-            self.out,
-            "{line:>6} {cab:<5} {call:<14} {outcome:>3}  {mode:<4} {level:>5} {brake:>5}"
-        )?;
-        write!(self.out, " {buttons:>7} {waiting:>7}  {first:<14}{column}")
+        self.line.put(format_args!(" {buttons:>7} {waiting:>7}  "))?;
+        self.line.left(RequestWords(answer.first), FIRST_WIDTH)?;
+        self.line.put(column)
     }
 
-    // A row of a cab; of a call that stands in no telegram, `column` comes behind the requests.
-    fn print_row(
-        &mut self,
-        cab: &str,
-        row: &Row<Answered<'_>>,
-        column: Column<'_>,
-    ) -> io::Result<()> {
-        let line = row.line;
-        match row.told {
-            Told::Call(answered) => {
-                let call = CallWords(answered.call);
-                let call = format!(in self.heap; "{call}")?;
-                let column = answered.placed.map_or(column, Column::Placed);
-                self.print_answer(line, cab, call.as_str(), column, answered.answer)
+    // The row of one cab; behind a call that stands in no telegram comes `column`.
+    fn put_entry(&mut self, entry: &Entry<'_, '_>, column: Column) -> io::Result<()> {
+        match entry.item {
+            Item::Call(answered) => {
+                self.line.left(CallWords(answered.call), CALL_WIDTH)?;
+                let column = answered.places.map_or(column, Column::Placed);
+                self.put_answer(answered.answer, column)?;
+                if let Some(words) = answered.message {
+                    self.line.put("   ")?;
+                    self.line.put(Words(Some(words)))?;
+                }
+                Ok(())
             }
-            Told::Note(note) => {
-                let name = note.name();
+            Item::Note(note) => {
+                self.line.left(note.name(), CALL_WIDTH)?;
                 let number = note.number();
-                let words = NoteWords(note);
-                write!(self.out, "{line:>6} {cab:<5} {name:<14} {number:>3}{words}")
+                self.line.put(format_args!(" {number:>3}"))?;
+                self.line.put(NoteWords(note))
             }
         }
     }
 
-    // One row where both cabs tell the same, else the row of each. What is no call has no message.
+    fn end(&mut self) -> io::Result<()> {
+        self.line.print(self.out)
+    }
+
+    // One row that tells of both cabs.
+    fn print_both(
+        &mut self,
+        said: Said,
+        one: &Entry<'_, '_>,
+        other: &Entry<'_, '_>,
+        column: Column,
+    ) -> io::Result<()> {
+        self.begin(said, Some(one.line), Some(other.line), "")?;
+        self.put_entry(one, column)?;
+        self.end()
+    }
+
+    // The row of each cab; where one has no call, that it has nothing.
+    fn print_each(
+        &mut self,
+        said: Said,
+        one: Option<&Entry<'_, '_>>,
+        other: Option<&Entry<'_, '_>>,
+        column: Column,
+    ) -> io::Result<()> {
+        self.begin(said, one.map(|entry| entry.line), None, "bus")?;
+        self.put_or_nothing(one, column)?;
+        self.begin(said, None, other.map(|entry| entry.line), "pulse")?;
+        self.put_or_nothing(other, column)
+    }
+
+    fn put_or_nothing(&mut self, entry: Option<&Entry<'_, '_>>, column: Column) -> io::Result<()> {
+        match entry {
+            Some(entry) => self.put_entry(entry, column)?,
+            None => self.line.put("nothing")?,
+        }
+        self.end()
+    }
+
+    // A piece of what differs, behind those that were put.
+    fn put_difference<D: fmt::Display + Drop, F: fmt::Display + Drop>(
+        &mut self,
+        first: &mut bool,
+        name: &str,
+        one: D,
+        other: F,
+    ) -> io::Result<()> {
+        self.line.put(if *first { "" } else { ", " })?;
+        *first = false;
+        self.line.put(format_args!("{name} {one} <> {other}"))
+    }
+
+    // What differs of two calls, each by its column and both values.
+    fn print_differences(
+        &mut self,
+        found: &Found,
+        one: &Answered<'_, '_>,
+        other: &Answered<'_, '_>,
+    ) -> io::Result<()> {
+        self.line.left(found.said().word(), MARK_WIDTH)?;
+        let lines = if self.two_lists { 2 } else { 1 };
+        self.line.left("", LINE_WIDTH * lines + CAB_WIDTH + 1)?;
+        let mut first = true;
+        if !found.same_call
+            && let Some(untold) = Untold::of_call(one.call)
+            && let Some(other_untold) = Untold::of_call(other.call)
+        {
+            self.put_difference(&mut first, "call", untold, other_untold)?;
+        }
+        if found.answer_differs() {
+            for column in COLUMNS {
+                let value = ColumnValue(column, one.answer);
+                let other_value = ColumnValue(column, other.answer);
+                if !same_part(column, one.answer, other.answer) {
+                    self.put_difference(&mut first, column.name(), value, other_value)?;
+                }
+            }
+        }
+        if found.message_differs() {
+            let message = Message(one.message);
+            let other_message = Message(other.message);
+            self.put_difference(&mut first, "message", message, other_message)?;
+        }
+        self.end()
+    }
+
+    // Two calls at one place.
+    fn print_calls(
+        &mut self,
+        entries: (&Entry<'_, '_>, &Entry<'_, '_>),
+        calls: (&Answered<'_, '_>, &Answered<'_, '_>),
+        marks: &[Mark],
+    ) -> io::Result<()> {
+        let (one, other) = calls;
+        let found = Found::of_calls(marks, one, other);
+        let column = match (one.call, other.call) {
+            (Call::Cycle(_), Call::Cycle(_)) => Column::Speeds {
+                bus: one.speed,
+                pulse: other.speed,
+            },
+            _ => Column::Blank,
+        };
+        if found.is_same() {
+            return self.print_both(found.said(), entries.0, entries.1, column);
+        }
+        self.print_each(found.said(), Some(entries.0), Some(entries.1), column)?;
+        if matches!(found.said(), Said::Differ | Said::Call) {
+            self.print_differences(&found, one, other)?;
+        }
+        Ok(())
+    }
+
+    // What is no call, of both cabs or of one.
+    fn print_notes(
+        &mut self,
+        one: Option<&Entry<'_, '_>>,
+        other: Option<&Entry<'_, '_>>,
+        notes: &NotesCompared,
+    ) -> io::Result<()> {
+        let differ = notes.differs(one.map(|entry| entry.row), other.map(|entry| entry.row));
+        let said = if differ { Said::Differ } else { Said::Nothing };
+        if let (Some(entry), Some(other_entry)) = (one, other)
+            && is_same_note(entry, other_entry)
+        {
+            return self.print_both(said, entry, other_entry, Column::Blank);
+        }
+        if let Some(entry) = one {
+            self.begin(said, Some(entry.line), None, "bus")?;
+            self.put_or_nothing(one, Column::Blank)?;
+        }
+        if let Some(entry) = other {
+            self.begin(said, None, Some(entry.line), "pulse")?;
+            self.put_or_nothing(other, Column::Blank)?;
+        }
+        Ok(())
+    }
+
     fn print_pair(
         &mut self,
         pair: Pair<'_, '_>,
-        reordered: bool,
-        message: Message<'_>,
+        marks: &[Mark],
+        notes: &NotesCompared,
     ) -> io::Result<()> {
-        let (row, other) = pair.left_and_right();
-        let of_calls = row.is_some_and(|row| row.is_of_call())
-            || other.is_some_and(|row| row.is_of_call());
-        let message = if of_calls { message } else { Message(None) };
-        let mut column = Column::Blank;
-        let mut answers_agree = false;
-        if let (Some(one), Some(two)) = (row, other) {
-            column = Column::of_cycles(&one.told, &two.told);
-            if same_told(&one.told, &two.told) {
-                self.print_row("", &one, column)?;
-                return writeln!(self.out, "{message}");
-            }
-            answers_agree = same_answer(&one.told, &two.told);
-        }
-        let mark = Mark::of_rows(of_calls, reordered, answers_agree);
-        self.print_side(Cab::Bus, row, column, message, mark)?;
-        self.print_side(Cab::Pulse, other, column, Message(None), mark)
-    }
-
-    // The next rows of both cabs, after the bus cab's call, if it is one, has brought its texts into the window.
-    fn print_next(
-        &mut self,
-        pair: Pair<'_, '_>,
-        messages: &mut Messages<'_>,
-        reordered: &mut slice::Iter<'_, bool>,
-    ) -> io::Result<()> {
-        let (row, _) = pair.left_and_right();
-        let mut in_another_order = false;
-        if let Some(
-            Row {
-                told: Told::Call(Answered { call, answer, .. }),
-                ..
-            },
-        ) = row
+        let (one, other) = pair.left_and_right();
+        if let (Some(entry), Some(other_entry)) = (&one, &other)
+            && let (Item::Call(call), Item::Call(other_call)) = (&entry.item, &other_entry.item)
         {
-            messages.show_call(call, answer)?;
-            in_another_order = reordered.next().copied().unwrap_or(false);
+            return self.print_calls((entry, other_entry), (call, other_call), marks);
         }
-        self.print_pair(pair, in_another_order, Message(messages.top_words()))
+        let of_call = one.is_some_and(|entry| entry.is_of_call())
+            || other.is_some_and(|entry| entry.is_of_call());
+        if of_call {
+            return self.print_each(Said::Differ, one.as_ref(), other.as_ref(), Column::Blank);
+        }
+        self.print_notes(one.as_ref(), other.as_ref(), notes)
     }
 
-    // The row of one cab with its mark, or that it has no call where the other has one.
-    fn print_side(
-        &mut self,
-        cab: Cab,
-        row: Option<Row<Answered<'_>>>,
-        column: Column<'_>,
-        message: Message<'_>,
-        mark: Mark,
-    ) -> io::Result<()> {
-        let name = cab.name();
-        match (row, mark) {
-            (Some(row), _) => self.print_row(name, &row, column)?,
-            (None, Mark::NotCompared) => return Ok(()),
-            (None, _) => write!(self.out, "     - {name:<5} nothing")?,
-        }
-        writeln!(self.out, "{message}{mark}")
+    fn print_on(&mut self, on: &Answer) -> io::Result<()> {
+        self.begin(Said::Nothing, Some(0), Some(0), "")?;
+        self.line.left("on", CALL_WIDTH)?;
+        self.put_answer(on, Column::Blank)?;
+        self.end()
+    }
+
+    fn print_head(&mut self) -> io::Result<()> {
+        let lines = if self.two_lists {
+            "    bus  pulse"
+        } else {
+            "   line"
+        };
+        self.line.left("mark", MARK_WIDTH)?;
+        self.line.put(lines)?;
+        self.line.put(" cab   call           out  mode level brake buttons waiting  ")?;
+        self.line.put("first          bytes or km/h  message")?;
+        self.end()
     }
 }
 
-// The table of both cabs; the words of the first cab's top message stand behind its rows.
-// Calls stand beside calls: what is no call comes first, and alone where the other cab has a call.
+fn is_same_note(one: &Entry<'_, '_>, other: &Entry<'_, '_>) -> bool {
+    match (one.item, other.item) {
+        (Item::Note(note), Item::Note(other_note)) => note == other_note,
+        _ => false,
+    }
+}
+
+// The table of both cabs. Calls stand beside calls: what is no call comes first, and alone where the other cab has a call.
 pub fn print_table<W: Write + Drop>(
     out: &mut W,
     heap: Global,
     sides: &Sides<'_, '_>,
-    likeness: &Likeness,
+    marks: &[Mark],
+    notes: &NotesCompared,
 ) -> io::Result<()> {
-    let Sides { bus, pulse } = sides;
-    let mut lines = [FREE; ROWS];
-    let mut messages = Messages::new(heap, &mut lines);
-    // One mark for each call of the bus cab, as the comparison answers them.
-    let mut reordered = likeness.reordered.iter();
-    let mut table = Table { out, heap };
-    writeln!(
-        table.out,
-        "  line cab   call           out  mode level brake buttons waiting  first          bytes or km/h  message"
-    )?;
-    table.print_answer(0, "", "on", Column::Blank, &bus.on)?;
-    writeln!(table.out)?;
-    for pair in bus.rows().merge_join_by(
-        pulse.rows(),
-        |row, other| row.is_of_call().cmp(&other.is_of_call()),
+    let Sides {
+        bus,
+        pulse,
+        two_lists,
+    } = *sides;
+    let line = Line::new(heap);
+    let mut table = Table {
+        out,
+        line,
+        two_lists,
+    };
+    table.print_head()?;
+    table.print_on(bus.on)?;
+    for pair in bus.entries().merge_join_by(
+        pulse.entries(),
+        |entry, other| entry.is_of_call().cmp(&other.is_of_call()),
     ) {
-        table.print_next(pair, &mut messages, &mut reordered)?;
+        table.print_pair(pair, marks, notes)?;
     }
     Ok(())
 }

@@ -4,8 +4,8 @@ ghost use Rattle.columns.specs.Difference.{DifferFirst, SamePart};
 use crate::names::{COLUMNS, Column};
 use driver_desk::Answer;
 
-// Whether two answers have the same in a column.
-fn is_same(column: Column, one: &Answer, other: &Answer) -> bool
+/// Whether two answers have the same in a column.
+pub fn same_part(column: Column, one: &Answer, other: &Answer) -> bool
     ensures { Decides result (SamePart column one.now other.now) }
 {
     match column {
@@ -29,7 +29,7 @@ pub fn first_difference(one: &Answer, other: &Answer) -> Option<Column>
     ensures some { IfSome result (λ c. DifferFirst c one.now other.now) }
 {
     for column in COLUMNS {
-        if !is_same(column, one, other) {
+        if !same_part(column, one, other) {
             return Some(column);
         }
     }

@@ -9,7 +9,7 @@ mod values;
 mod words;
 
 pub use answers::{AnswerColumns, NoteColumns};
-pub use difference::first_difference;
+pub use difference::{first_difference, same_part};
 pub use names::{COLUMNS, Column, HEADING, heading_stands};
 pub use values::ColumnValue;
 pub use words::{CallWords, RequestWords, SpeedWords, outcome_number};

@@ -133,8 +133,8 @@ apply_reordered k ms es fs as' bs vs ws l n h t u a b s r =
           let rest = r.2 (after_calls (take k es) (take k as') d) behind g fitting in
           let j = positive k l in
           subst (λ i. Within i es as' fs bs → top (after_calls (take i es) (take i as') d).lines ≡ top (after_calls (take i fs) (take i bs) d).lines →
-            AgreeWhere (shown_kept ms) (messages_from (after_calls (take i es) (take i as') d) (drop i es) (drop i as')) (messages_from (after_calls (take i fs) (take i bs) d) (drop i fs) (drop i bs)) →
-            AgreeWhere (shown_kept (stretch_marks i ++ ms)) (messages_from d es as') (messages_from d fs bs))
+          AgreeWhere (shown_kept ms) (messages_from (after_calls (take i es) (take i as') d) (drop i es) (drop i as')) (messages_from (after_calls (take i fs) (take i bs) d) (drop i fs) (drop i bs)) →
+          AgreeWhere (shown_kept (stretch_marks i ++ ms)) (messages_from d es as') (messages_from d fs bs))
           (sym j.1) (stretch_shown j.0 ms es fs as' bs d d) h (ap (λ (x : Display). top x.lines) (sym same))
           (subst (λ (x : Display). AgreeWhere (shown_kept ms) (messages_from (after_calls (take k es) (take k as') d) (drop k es) (drop k as')) (messages_from x (drop k fs) (drop k bs))) (sym same) rest),
     )
@@ -150,8 +150,8 @@ apply_one : (ms : List Mark) (e f : Event) (es fs : List Event) (a b : Answer) (
 apply_one ms e f es fs a b as' bs v w vs ws c s r =
     ⊎_elim
     (λ (h : is_cycle e ≡ true).
-      let g = sym (same-cycles e f c) ∙ h in
-      (cycles h g (s (subst₂ (λ x y. (x && y) ≡ true) (sym h) (sym g) refl)) r.0, ap (λ l. false ∷ l) r.1, λ d o g' z. shown d o g'.0 (λ o'. r.2 (after_call e a d) o' g'.1 z)))
+    let g = sym (same-cycles e f c) ∙ h in
+    (cycles h g (s (subst₂ (λ x y. (x && y) ≡ true) (sym h) (sym g) refl)) r.0, ap (λ l. false ∷ l) r.1, λ d o g' z. shown d o g'.0 (λ o'. r.2 (after_call e a d) o' g'.1 z)))
     (λ h. (other h (same-call e f c h) r.0, ap (λ l. false ∷ l) r.1, λ d o g' z. shown d o g'.0 (λ o'. r.2 (after_call e a d) o' g'.1 z)))
     (cases_Bool (is_cycle e))
   where

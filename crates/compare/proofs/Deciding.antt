@@ -190,9 +190,9 @@ walked_found (more (same {e} {f} {es} {fs} {a} {b} {as'} {bs} q) w) (v ∷ vs) (
     let m : Speeds vs es us fs = (omega (arith, n.0), omega (arith, n.1)) in
     ⊎_elim
     (λ (h : ((is_text e && is_accepted a) && (is_text f && is_accepted b)) ≡ true).
-      let l = and_parts (is_text e && is_accepted a) _ h in
-      let t = and_parts (is_text e) (is_accepted a) l.0 in
-      walked_found w vs us (e ∷ P) (f ∷ Q) m (more_counts e f P Q (same-call e f q (text_no_cycle e t.0)) c) (g.0 h))
+    let l = and_parts (is_text e && is_accepted a) _ h in
+    let t = and_parts (is_text e) (is_accepted a) l.0 in
+    walked_found w vs us (e ∷ P) (f ∷ Q) m (more_counts e f P Q (same-call e f q (text_no_cycle e t.0)) c) (g.0 h))
     (λ h. walked_found w vs us [] [] m (λ t. refl) (g.1 h).2)
     (cases_Bool ((is_text e && is_accepted a) && (is_text f && is_accepted b)))
 walked_found (more (other d t) w) [] us P Q n c g = absurd (omega (arith, n.0))

@@ -49,8 +49,8 @@ one_alike (e ∷ es) (f ∷ fs) (x ∷ as') (y ∷ bs) (v ∷ vs) (w ∷ ws) u a
     let i = one_alike es fs as' bs vs ws rest (omega (arith, a)) (omega (arith, b)) (omega (arith, n.0), omega (arith, n.1)) z.1 in
     ⊎_elim
     (λ (h : is_cycle e ≡ true).
-      let g = sym (same-cycles e f c) ∙ h in
-      (cycles h g (z.0 (subst₂ (λ p q. (p && q) ≡ true) (sym h) (sym g) refl)) i.0, λ o. ap₂ ◌∷◌ o.0 (i.1 o.1)))
+    let g = sym (same-cycles e f c) ∙ h in
+    (cycles h g (z.0 (subst₂ (λ p q. (p && q) ≡ true) (sym h) (sym g) refl)) i.0, λ o. ap₂ ◌∷◌ o.0 (i.1 o.1)))
     (λ h. (other h (same-call e f c h) i.0, λ o. ap₂ ◌∷◌ o.0 (i.1 o.1)))
     (cases_Bool (is_cycle e))
 

@@ -11,39 +11,38 @@ use std::alloc::{AllocError, Global};
 use train_end::TrainEnd;
 
 /// Two cabs after their runs, and what is found of these; the want of memory for that leaves the runs.
-pub struct Compared<'a, E, F> {
-    pub one: Ran<E>,
-    pub other: Ran<F>,
+pub struct Compared<'p, 'a, E, F> {
+    pub one: Ran<'p, 'a, E>,
+    pub other: Ran<'p, 'a, F>,
     pub verdict: Result<Verdict<'a>, AllocError>,
 }
 
 /// Runs two cabs and compares their runs. The caller switches the units off.
 ///
 /// Where a cab has not as many places as calls, nothing is run, and both come back as they were.
-pub fn compare_cabs<'a, E: TrainEnd, F: TrainEnd>(
+pub fn compare_cabs<'p, 'a, E: TrainEnd, F: TrainEnd>(
     heap: Global,
-    one: Ready<'a, E>,
-    other: Ready<'a, F>,
-) -> Result<Compared<'a, E, F>, (Ready<'a, E>, Ready<'a, F>)>
+    one: Ready<'p, 'a, E>,
+    other: Ready<'p, 'a, F>,
+) -> Result<Compared<'p, 'a, E, F>, (Ready<'p, 'a, E>, Ready<'p, 'a, F>)>
     ensures fits { is_ok result ≡ (has_room one.entry && has_room other.entry) }
     ensures laws { IfOk result (λ c. Laws (ran E.TrainEnd F.TrainEnd one.entry other.entry c)) }
     ensures on { IfOk result (λ c. ShownOn (ran E.TrainEnd F.TrainEnd one.entry other.entry c) c.one.on c.other.on) }
     ensures verdict { IfOk result (λ c. IfOk c.verdict (λ v. VerdictOf (ran E.TrainEnd F.TrainEnd one.entry other.entry c) v)) }
     ensures memory { IfOk result (λ c. IfErr c.verdict (λ _. 0 < length one.entry.calls.now + length other.entry.calls.now)) }
+    ensures calls { IfOk result (λ c. (c.one.calls ≡ one.entry.calls) × (c.other.calls ≡ other.entry.calls)) }
     ensures back { IfErr result (λ back. (back.0 ≡ one.entry) × (back.1 ≡ other.entry)) }
 {
-    let calls = one.calls;
-    let other_calls = other.calls;
     let (one, other) = run_lent(one, other)?;
     let verdict = compare_runs(
         heap,
         Run {
-            calls,
+            calls: one.calls,
             answers: &one.answers,
             speeds: &one.speeds,
         },
         Run {
-            calls: other_calls,
+            calls: other.calls,
             answers: &other.answers,
             speeds: &other.speeds,
         },

@@ -6,8 +6,8 @@ ghost use Rattle.compare.specs.Walked.{Apart, AsLong, Compared, Front, Walked, i
 
 use crate::account::{Surplus, enter};
 use crate::asked::{TextKey, same_asked, text_key};
-use crate::run::Answered;
 use crate::marks::{Mark, Stretch};
+use crate::run::Answered;
 use std::alloc::{AllocError, Global};
 use std::collections::BTreeMap;
 
@@ -102,7 +102,11 @@ fn compare_front(heap: Global, run: Answered<'_>, other: Answered<'_>) -> Result
 }
 
 // Lists with as many answers, front by front.
-fn walk_lists(heap: Global, mut run: Answered<'_>, mut other: Answered<'_>) -> Result<Likeness, AllocError>
+fn walk_lists(
+    heap: Global,
+    mut run: Answered<'_>,
+    mut other: Answered<'_>,
+) -> Result<Likeness, AllocError>
     requires { AsLong (asked run) run.answers.now (asked other) other.answers.now }
     ensures value { IfOk result (λ l. Walked l.alike l.marks.items (asked run.entry) run.entry.answers.now (asked other.entry) other.entry.answers.now) }
     ensures memory { IfErr result (λ _. 0 < length (asked run.entry)) }

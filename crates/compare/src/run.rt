@@ -6,8 +6,8 @@ use driver_desk::Answer;
 
 // A run of a cab: its calls, the answer to each, and the speed of the unit's own end after it.
 #[derive(Clone, Copy)]
-pub(crate) struct Run<'a, 'r> {
-    pub(crate) calls: &'a [Call<'a>],
+pub(crate) struct Run<'r, 'a> {
+    pub(crate) calls: &'r [Call<'a>],
     pub(crate) answers: &'r [Answer],
     pub(crate) speeds: &'r [Option<u16>],
 }

@@ -140,8 +140,8 @@ fn tally_places(
 // Compares two runs.
 pub(crate) fn compare_runs<'a>(
     heap: Global,
-    one: Run<'a, '_>,
-    other: Run<'a, '_>,
+    one: Run<'_, 'a>,
+    other: Run<'_, 'a>,
 ) -> Result<Verdict<'a>, AllocError>
     requires { Whole (lists_of one) × Whole (lists_of other) }
     ensures found { IfOk result (λ v. Found (lists_of one.entry) (lists_of other.entry) v) }

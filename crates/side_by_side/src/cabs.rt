@@ -14,9 +14,9 @@ use std::alloc::{AllocError, Global};
 use train_end::TrainEnd;
 
 /// Both cabs after their runs, and what is found of these; the want of memory for that leaves the runs.
-pub struct BothCabs<'a, E, F> {
-    pub bus: Ran<E>,
-    pub pulse: Ran<F>,
+pub struct BothCabs<'p, 'a, E, F> {
+    pub bus: Ran<'p, 'a, E>,
+    pub pulse: Ran<'p, 'a, F>,
     pub finding: Result<Finding<'a>, AllocError>,
 }
 
@@ -37,15 +37,15 @@ fn find<'a>(
     })
 }
 
-impl<'a, E: TrainEnd + Drop, F: TrainEnd + Drop> ReadyCabs<'a, E, F> {
+impl<'p, 'a, E: TrainEnd + Drop, F: TrainEnd + Drop> ReadyCabs<'p, 'a, E, F> {
     /// Both cabs with what is asked of them, on these ends, with the places that they want.
     /// Where memory is wanting, the ends come back.
     pub fn new(
         heap: Global,
-        plans: &'a Plans<'a>,
+        plans: &'p Plans<'a>,
         bus: E,
         pulse: F,
-    ) -> Result<ReadyCabs<'a, E, F>, (E, F)>
+    ) -> Result<ReadyCabs<'p, 'a, E, F>, (E, F)>
         ensures plans { IfOk result (λ c. plans_of c ≡ plans.entry.now) }
         ensures ends { IfOk result (λ c. (c.bus.end ≡ bus) × (c.pulse.end ≡ pulse)) }
         ensures back { IfErr result (λ ends. (ends.0 ≡ bus) × (ends.1 ≡ pulse)) }
@@ -62,7 +62,7 @@ impl<'a, E: TrainEnd + Drop, F: TrainEnd + Drop> ReadyCabs<'a, E, F> {
 
     /// Runs both cabs and compares what they were asked, what they answered, and what they show.
     /// The caller switches the units off.
-    pub fn run(self, heap: Global) -> BothCabs<'a, E, F>
+    pub fn run(self, heap: Global) -> BothCabs<'p, 'a, E, F>
         ensures planned { Planned (plans_of self.entry) (ran E.TrainEnd F.TrainEnd self.entry result) }
         ensures laws { Laws (ran E.TrainEnd F.TrainEnd self.entry result) }
         ensures on { ShownOn (ran E.TrainEnd F.TrainEnd self.entry result) result.bus.on result.pulse.on }
@@ -70,7 +70,14 @@ impl<'a, E: TrainEnd + Drop, F: TrainEnd + Drop> ReadyCabs<'a, E, F> {
         ensures one_list { OneListAgrees (plans_of self.entry) (ran E.TrainEnd F.TrainEnd self.entry result) result }
     {
         let ReadyCabs { plans, bus, pulse } = self;
-        let Ok(Compared { one, other, verdict }) = compare_cabs(heap, bus, pulse) else {
+        let Ok(
+            Compared {
+                one,
+                other,
+                verdict,
+            },
+        ) = compare_cabs(heap, bus, pulse)
+        else {
             unreachable!()
         };
         let finding = find(heap, plans, verdict);
@@ -82,7 +89,7 @@ impl<'a, E: TrainEnd + Drop, F: TrainEnd + Drop> ReadyCabs<'a, E, F> {
     }
 }
 
-impl<E, F> BothCabs<'_, E, F> {
+impl<E, F> BothCabs<'_, '_, E, F> {
     /// The status of the runs: `Trouble` where neither cab was asked for a call or nothing could be found for want of
     /// memory, `Agree` where the lists are alike and nothing that is compared differs, and else `Differ`.
     pub fn status(&self) -> Status

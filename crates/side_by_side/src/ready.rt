@@ -5,10 +5,10 @@ use bench::Ready;
 use plan::Plans;
 
 /// Both cabs before their runs: what is asked of them, their ends, and the places for what they answer.
-pub struct ReadyCabs<'a, E, F> {
-    pub(crate) plans: &'a Plans<'a>,
-    pub(crate) bus: Ready<'a, E>,
-    pub(crate) pulse: Ready<'a, F>,
+pub struct ReadyCabs<'p, 'a, E, F> {
+    pub(crate) plans: &'p Plans<'a>,
+    pub(crate) bus: Ready<'p, 'a, E>,
+    pub(crate) pulse: Ready<'p, 'a, F>,
     ghost bus_room: { has_room bus ≡ true },
     ghost pulse_room: { has_room pulse ≡ true },
     ghost bus_calls: { bus.calls.now ≡ vec_items plans.now.bus.calls },

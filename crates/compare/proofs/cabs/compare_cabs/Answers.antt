@@ -19,5 +19,5 @@ returns-clause-verdict g c =
     let lists : List Call → List Answer → List (Option ℕ) → Lists = λ ks as' vs. record { calls = map said ks; answers = as'; speeds = vs } in
     let rs = runs g.E.TrainEnd g.F.TrainEnd c.args.one c.args.other (c.in_ok-one.one, c.in_ok-one.other) in
     let w = c.compare_runs-verdict.ensures in
-    judged rs c.compare_runs-verdict.result (ap₂ (lists c.args.one.calls.now) c.deref.ensures.value c.deref-2.ensures.value) (ap₂ (lists c.args.other.calls.now) c.deref-3.ensures.value c.deref-4.ensures.value)
+    judged rs c.compare_runs-verdict.result (ap₂ (lists c.in_ok-one.one.calls.now) c.deref.ensures.value c.deref-2.ensures.value) (ap₂ (lists c.in_ok-one.other.calls.now) c.deref-3.ensures.value c.deref-4.ensures.value)
     c.in_ok-one.ensures.laws w.found w.decided

@@ -32,5 +32,5 @@ returns-clause-decided c =
       messages = c.in_ok-messages.ensures.value;
       other_messages = c.in_ok-other_messages.ensures.value;
       tallies = subst (λ (ms : List Mark). TalliesOf one other ms shown other_shown t) c.deref.ensures.value
-        (subst₂ (λ (xs ys : List (Option (List ℕ))). TalliesOf one other c.deref.result.now xs ys t) m n c.tally_places-tallies.ensures);
+          (subst₂ (λ (xs ys : List (Option (List ℕ))). TalliesOf one other c.deref.result.now xs ys t) m n c.tally_places-tallies.ensures);
     })

@@ -34,12 +34,12 @@ loop-i-preserved c =
     let b = r.runs.1 in
     record {
       speeds = subst (SoFar (i + 1) (sampled (map said ks) (map said ls)) c.args.one.speeds.now c.args.other.speeds.now) (sym c.add.ensures.added)
-        (one_more _ _ _ i _ _ _ (omega (arith, n, m, s, r.marks, t)) (omega (arith, n, m, a.1, r.marks, t)) (omega (arith, n, m, b.1, r.marks, t)) c.is_sample-sample.ensures c.same_speeds-speed.ensures inv.speeds);
+          (one_more _ _ _ i _ _ _ (omega (arith, n, m, s, r.marks, t)) (omega (arith, n, m, a.1, r.marks, t)) (omega (arith, n, m, b.1, r.marks, t)) c.is_sample-sample.ensures c.same_speeds-speed.ensures inv.speeds);
       answers = subst (SoFar (i + 1) (kept ms) c.args.one.answers.now c.args.other.answers.now) (sym c.add-in-loop-i.ensures.added)
-        (one_more _ _ _ i _ _ _ (omega (arith, u, t)) (omega (arith, n, m, a.0, r.marks, t)) (omega (arith, n, m, b.0, r.marks, t)) c.is_kept-kept.ensures c.same_answers-answer.ensures inv.answers);
+          (one_more _ _ _ i _ _ _ (omega (arith, u, t)) (omega (arith, n, m, a.0, r.marks, t)) (omega (arith, n, m, b.0, r.marks, t)) c.is_kept-kept.ensures c.same_answers-answer.ensures inv.answers);
       messages = subst (SoFar (i + 1) (shown_kept ms) (map words c.args.messages.now) (map words c.args.other_messages.now)) (sym c.add-in-loop-i-2.ensures.added)
-        (one_more _ _ _ i _ _ _ (omega (arith, v, t)) (omega (arith, n, m, w, r.messages, r.marks, t)) (omega (arith, n, m, x, r.messages, r.marks, t)) c.is_shown-is_shown.ensures
-        (words_at _ _ i _ (omega (arith, n, m, r.messages, r.marks, t)) (omega (arith, n, m, r.messages, r.marks, t)) c.same_messages-message.ensures) inv.messages);
+          (one_more _ _ _ i _ _ _ (omega (arith, v, t)) (omega (arith, n, m, w, r.messages, r.marks, t)) (omega (arith, n, m, x, r.messages, r.marks, t)) c.is_shown-is_shown.ensures
+          (words_at _ _ i _ (omega (arith, n, m, r.messages, r.marks, t)) (omega (arith, n, m, r.messages, r.marks, t)) c.same_messages-message.ensures) inv.messages);
     }
 
 pub returns : goal.returns

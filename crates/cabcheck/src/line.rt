@@ -1,0 +1,40 @@
+use std::alloc::Global;
+use std::io::Write;
+use std::{fmt, io};
+
+// A line of the table while it is put together, in columns.
+#[derive(Drop)]
+pub struct Line {
+    bytes: Vec<u8>,
+}
+
+impl Line {
+    pub fn new(heap: Global) -> Line {
+        Line {
+            bytes: Vec::new(heap),
+        }
+    }
+
+    // One piece more.
+    pub fn put<D: fmt::Display + Drop>(&mut self, piece: D) -> io::Result<()> {
+        write!(self.bytes, "{piece}")
+    }
+
+    // One piece more, with blanks behind it up to a width.
+    pub fn left<D: fmt::Display + Drop>(&mut self, piece: D, width: usize) -> io::Result<()> {
+        let end = self.bytes.len().saturating_add(width);
+        self.put(piece)?;
+        if self.bytes.len() < end {
+            self.bytes.resize(end, b' ')?;
+        }
+        Ok(())
+    }
+
+    // Prints the line without blanks at its end, and begins the next.
+    pub fn print<W: Write>(&mut self, out: &mut W) -> io::Result<()> {
+        out.write_all(self.bytes.trim_ascii_end())?;
+        out.write_all(b"\n")?;
+        self.bytes.clear();
+        Ok(())
+    }
+}

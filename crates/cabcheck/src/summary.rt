@@ -1,0 +1,195 @@
+use crate::notes::NotesCompared;
+use crate::sides::{Answered, Entry, Sides};
+use crate::words::Message;
+use columns::{CallWords, ColumnValue, SpeedWords, first_difference};
+use compare::{Tallies, Tally, Verdict};
+use side_by_side::Status;
+use std::io::Write;
+use std::{fmt, io};
+
+// A number of things: the word for one, or for more.
+#[derive(Clone, Copy)]
+struct Count(usize, &'static str, &'static str);
+
+impl fmt::Display for Count {
+    fn fmt<W: fmt::Write>(&self, f: &mut fmt::Formatter<W>) -> fmt::Result {
+        let Count(number, one, more) = *self;
+        let word = if number == 1 { one } else { more };
+        write!(f, "{number} {word}")
+    }
+}
+
+// How many of those compared differ.
+#[derive(Clone, Copy)]
+struct Differing(usize);
+
+impl fmt::Display for Differing {
+    fn fmt<W: fmt::Write>(&self, f: &mut fmt::Formatter<W>) -> fmt::Result {
+        match self.0 {
+            0 => f.write_str("none differs"),
+            1 => f.write_str("1 differs"),
+            number => write!(f, "{number} differ"),
+        }
+    }
+}
+
+// The line of a list, or the lines of both.
+#[derive(Clone, Copy)]
+struct At {
+    bus: Option<usize>,
+    pulse: Option<usize>,
+    two_lists: bool,
+}
+
+impl fmt::Display for At {
+    fn fmt<W: fmt::Write>(&self, f: &mut fmt::Formatter<W>) -> fmt::Result {
+        match (self.two_lists, self.bus, self.pulse) {
+            (true, Some(bus), Some(pulse)) => write!(f, "at line {bus} and line {pulse}"),
+            (true, Some(bus), None) => write!(f, "at line {bus} of the bus cab"),
+            (true, None, Some(pulse)) => write!(f, "at line {pulse} of the pulse cab"),
+            (_, Some(line), _) | (_, None, Some(line)) => write!(f, "at line {line}"),
+            (_, None, None) => f.write_str("behind the last line"),
+        }
+    }
+}
+
+// The number of a note, or none.
+#[derive(Clone, Copy)]
+struct Number(Option<u8>);
+
+impl fmt::Display for Number {
+    fn fmt<W: fmt::Write>(&self, f: &mut fmt::Formatter<W>) -> fmt::Result {
+        match self.0 {
+            Some(number) => write!(f, "{number}"),
+            None => f.write_str("none"),
+        }
+    }
+}
+
+// The calls of both cabs at a place, and where they stand.
+struct Placed<'p, 'a> {
+    at: At,
+    one: Answered<'p, 'a>,
+    other: Answered<'p, 'a>,
+}
+
+fn calls_at<'p, 'a>(sides: &Sides<'p, 'a>, place: usize) -> Option<Placed<'p, 'a>> {
+    let (entry, one) = sides.bus.entry_of(place)?;
+    let (other_entry, other) = sides.pulse.entry_of(place)?;
+    let (
+        Entry { line, .. },
+        Entry {
+            line: other_line,
+            ..
+        },
+    ) = (entry, other_entry);
+    let at = At {
+        bus: Some(line),
+        pulse: Some(other_line),
+        two_lists: sides.two_lists,
+    };
+    Some(Placed { at, one, other })
+}
+
+fn print_speeds<W: Write>(out: &mut W, sides: &Sides<'_, '_>, speeds: &Tally) -> io::Result<()> {
+    let samples = Count(speeds.compared, "sample", "samples");
+    let differing = Differing(speeds.differing);
+    write!(out, "speeds: {samples}, {differing}")?;
+    if let Some(Placed { at, one, other }) = speeds.first.and_then(|place| calls_at(sides, place)) {
+        let speed = SpeedWords(one.speed);
+        let other_speed = SpeedWords(other.speed);
+        write!(out, ", first {at}: {speed} <> {other_speed} km/h")?;
+    }
+    writeln!(out)
+}
+
+fn print_answers<W: Write>(out: &mut W, sides: &Sides<'_, '_>, answers: &Tally) -> io::Result<()> {
+    let differing = Differing(answers.differing);
+    write!(out, "answers: {} compared, {differing}", answers.compared)?;
+    if let Some(Placed { at, one, other }) = answers.first.and_then(|place| calls_at(sides, place))
+        && let Some(column) = first_difference(one.answer, other.answer)
+    {
+        let name = column.name();
+        let call = CallWords(one.call);
+        let value = ColumnValue(column, one.answer);
+        let other_value = ColumnValue(column, other.answer);
+        write!(
+            out,
+            ", first {at} ({call}): {name} {value} <> {other_value}"
+        )?;
+    }
+    writeln!(out)
+}
+
+fn print_messages<W: Write>(
+    out: &mut W,
+    sides: &Sides<'_, '_>,
+    messages: &Tally,
+) -> io::Result<()> {
+    let differing = Differing(messages.differing);
+    write!(out, "messages: {} compared, {differing}", messages.compared)?;
+    if let Some(Placed { at, one, other }) = messages
+        .first
+        .and_then(|place| calls_at(sides, place))
+    {
+        let call = CallWords(one.call);
+        let message = Message(one.message);
+        let other_message = Message(other.message);
+        write!(
+            out,
+            ", first {at} ({call}): message {message} <> {other_message}"
+        )?;
+    }
+    writeln!(out)
+}
+
+fn print_notes<W: Write>(
+    out: &mut W,
+    sides: &Sides<'_, '_>,
+    notes: &NotesCompared,
+) -> io::Result<()> {
+    let differing = Differing(notes.differing.len());
+    write!(out, "notes: {} compared, {differing}", notes.compared)?;
+    if let Some((bus, pulse)) = notes.differing.first().copied() {
+        let at = At {
+            bus: bus.map(|note| note.line),
+            pulse: pulse.map(|note| note.line),
+            two_lists: sides.two_lists,
+        };
+        let number = Number(bus.map(|note| note.number));
+        let other_number = Number(pulse.map(|note| note.number));
+        write!(out, ", first {at}: {number} <> {other_number}")?;
+    }
+    writeln!(out)
+}
+
+// What came of the comparison: whether the lists are alike, what was compared and what differs, and then one word.
+pub fn print_summary<W: Write>(
+    out: &mut W,
+    sides: &Sides<'_, '_>,
+    verdict: &Verdict<'_>,
+    notes: &NotesCompared,
+    status: Status,
+) -> io::Result<()> {
+    let Tallies {
+        speeds,
+        answers,
+        messages,
+    } = &verdict.tallies;
+    let calls = Count(sides.bus.calls.len(), "call", "calls");
+    let pulse_calls = sides.pulse.calls.len();
+    let likeness = if verdict.alike { "alike" } else { "not alike" };
+    writeln!(
+        out,
+        "lists: {calls} in the bus cab, {pulse_calls} in the pulse cab, {likeness}"
+    )?;
+    print_speeds(out, sides, speeds)?;
+    print_answers(out, sides, answers)?;
+    print_messages(out, sides, messages)?;
+    print_notes(out, sides, notes)?;
+    match status {
+        Status::Agree => writeln!(out, "AGREE"),
+        Status::Differ => writeln!(out, "DIFFER"),
+        Status::Trouble => Ok(()),
+    }
+}
