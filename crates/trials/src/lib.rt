@@ -2,17 +2,27 @@
 #![tactic(auto)]
 
 #[cfg(test)]
+mod cabs;
+#[cfg(test)]
 mod call_lists;
 #[cfg(test)]
 mod comparisons;
 #[cfg(test)]
 mod desks;
 #[cfg(test)]
+mod messages;
+#[cfg(test)]
+mod noting;
+#[cfg(test)]
 mod orderings;
+#[cfg(test)]
+mod plans;
 #[cfg(test)]
 mod rows;
 #[cfg(test)]
 mod runs;
+#[cfg(test)]
+mod signs;
 #[cfg(test)]
 mod telegrams;
 #[cfg(test)]
