@@ -1,21 +1,11 @@
 use crate::cabs::{both_ready, put_away, switch_off};
-use crate::signs::calls_of;
+use crate::signs::{calls_of, text};
 use cab_unit::Call;
-use compare::Mark::{Compared, Inside, Last};
-use compare::{Mark, Tally, Verdict, compare_cabs, same_asked, same_message};
+use compare::{Compared, Mark, Tally, Verdict, compare_cabs, same_asked, same_message};
 use std::alloc::Global;
 use std::process::Abort;
 use std::test::Fail;
-use telegram::Order;
 use train_end::{BusEnd, PulseEnd};
-
-fn text(number: u8, text: &[u8]) -> Call<'_> {
-    Call::Order(Order::Text {
-        number,
-        wanted: true,
-        text,
-    })
-}
 
 #[test]
 fn calls_asked(rt: HostRuntime) {
@@ -24,9 +14,10 @@ fn calls_asked(rt: HostRuntime) {
         (Call::Cycle(&[]), Call::Press(1), false),
         (Call::Press(1), Call::Press(1), true),
         (Call::Press(1), Call::Press(2), false),
-        (text(7, b"Halt"), text(7, b"Halt"), true),
-        (text(7, b"Halt"), text(7, b"Hall"), false),
-        (text(7, b"Halt"), text(8, b"Halt"), false),
+        (text(7, true, b"Halt"), text(7, true, b"Halt"), true),
+        (text(7, true, b"Halt"), text(7, true, b"Hall"), false),
+        (text(7, true, b"Halt"), text(8, true, b"Halt"), false),
+        (text(7, true, b"Halt"), text(7, false, b"Halt"), false),
     ] {
         assert_eq!(rt; same_asked(&call, &other), same);
     }
@@ -47,29 +38,17 @@ fn messages_are_the_same(rt: HostRuntime) {
 type Count = (usize, usize, Option<usize>);
 
 // Two lists in signs, the first for the bus cab and the other for the pulse cab; whether they are alike, what is compared of each place,
-// and what is found of speeds, answers and messages.
-struct Case(
-    &'static str,
-    &'static str,
-    bool,
-    &'static [Mark],
-    [Count; 3],
-);
+// and what is found of speeds, answers and messages. Of a mark the first letter is told.
+struct Case(&'static str, &'static str, bool, &'static str, [Count; 3]);
 
 const CASES: &[Case] = &[
-    Case(
-        "",
-        "",
-        true,
-        &[],
-        [(0, 0, None), (0, 0, None), (0, 0, None)],
-    ),
+    Case("", "", true, "", [(0, 0, None), (0, 0, None), (0, 0, None)]),
     // one list: each text has its answer and its message compared
     Case(
         "o21!x",
         "O21!x",
         true,
-        &[Compared, Compared, Compared, Compared, Compared],
+        "CCCCC",
         [(1, 0, None), (5, 0, None), (5, 0, None)],
     ),
     // behind twelve texts that wait a thirteenth is refused in both
@@ -77,10 +56,7 @@ const CASES: &[Case] = &[
         "123456789abcd",
         "213456789abcd",
         true,
-        &[
-            Inside, Last, Compared, Compared, Compared, Compared, Compared, Compared, Compared,
-            Compared, Compared, Compared, Compared,
-        ],
+        "ILCCCCCCCCCCC",
         [(0, 0, None), (11, 0, None), (12, 0, None)],
     ),
     // a stretch ends where the same texts came
@@ -88,7 +64,7 @@ const CASES: &[Case] = &[
         "12345",
         "21345",
         true,
-        &[Inside, Last, Compared, Compared, Compared],
+        "ILCCC",
         [(0, 0, None), (3, 0, None), (4, 0, None)],
     ),
     // two stretches behind each other
@@ -96,7 +72,7 @@ const CASES: &[Case] = &[
         "1234",
         "2143",
         true,
-        &[Inside, Last, Inside, Last],
+        "ILIL",
         [(0, 0, None), (0, 0, None), (2, 0, None)],
     ),
     // a text that comes twice in a stretch
@@ -104,7 +80,7 @@ const CASES: &[Case] = &[
         "AAB?",
         "BAA?",
         true,
-        &[Inside, Inside, Last, Compared],
+        "IILC",
         [(0, 0, None), (1, 0, None), (2, 0, None)],
     ),
     // of two texts of one number the one that came last stands behind the stretch
@@ -112,15 +88,24 @@ const CASES: &[Case] = &[
         "4D?",
         "D4?",
         true,
-        &[Inside, Last, Compared],
+        "ILC",
         [(0, 0, None), (1, 0, None), (2, 2, Some(1))],
+    ),
+    // eleven lines, and two of a larger number in two orders, which do not fit: the last of the twelve makes room,
+    // and the other one is left when the eleven are acknowledged
+    Case(
+        "123456789abLM!!!!!!!!!!!",
+        "123456789abML!!!!!!!!!!!",
+        true,
+        "CCCCCCCCCCCILCCCCCCCCCCC",
+        [(0, 0, None), (22, 0, None), (23, 1, Some(23))],
     ),
     // a line without words against no line
     Case(
         "?_",
         "??",
         false,
-        &[Compared, Compared],
+        "CC",
         [(0, 0, None), (2, 1, Some(1)), (2, 1, Some(1))],
     ),
     // 5 km/h against 6 at the second of three cycles
@@ -128,7 +113,7 @@ const CASES: &[Case] = &[
         "ovo?",
         "OVO?",
         true,
-        &[Compared, Compared, Compared, Compared],
+        "CCCC",
         [(3, 1, Some(1)), (4, 0, None), (4, 0, None)],
     ),
     // one list goes on
@@ -136,7 +121,7 @@ const CASES: &[Case] = &[
         "o?",
         "O",
         false,
-        &[Compared],
+        "C",
         [(1, 0, None), (1, 0, None), (1, 0, None)],
     ),
     // other calls, equal answers
@@ -144,7 +129,7 @@ const CASES: &[Case] = &[
         "o?",
         "Ol",
         false,
-        &[Compared, Compared],
+        "CC",
         [(1, 0, None), (2, 0, None), (2, 0, None)],
     ),
     // a text changes places with a cycle, which is no sample of speed then
@@ -152,7 +137,7 @@ const CASES: &[Case] = &[
         "o1o",
         "OO1",
         false,
-        &[Compared, Compared, Compared],
+        "CCC",
         [(1, 0, None), (3, 2, Some(1)), (3, 1, Some(1))],
     ),
     // texts that never come even
@@ -160,7 +145,7 @@ const CASES: &[Case] = &[
         "123",
         "234",
         false,
-        &[Compared, Compared, Compared],
+        "CCC",
         [(0, 0, None), (3, 3, Some(0)), (3, 3, Some(0))],
     ),
     // a refused text is in no stretch
@@ -168,7 +153,7 @@ const CASES: &[Case] = &[
         "442",
         "424",
         false,
-        &[Compared, Compared, Compared],
+        "CCC",
         [(0, 0, None), (3, 2, Some(1)), (3, 1, Some(1))],
     ),
 ];
@@ -177,16 +162,21 @@ fn count(tally: Tally) -> Count {
     (tally.compared, tally.differing, tally.first)
 }
 
+fn letter(mark: Mark) -> u8 {
+    match mark {
+        Mark::Compared => b'C',
+        Mark::Inside => b'I',
+        Mark::Last => b'L',
+    }
+}
+
 fn as_found(rt: &impl Abort, verdict: &Verdict<'_>, case: &Case) {
-    let Case(list, other_list, alike, marks, counts) = case;
+    let Case(list, other_list, alike, letters, counts) = case;
     assert_eq!(rt; verdict.alike, *alike, "{} against {}", list, other_list);
-    assert_eq!(rt;
-        verdict.marks.as_slice(),
-        *marks,
-        "{} against {}",
-        list,
-        other_list
-    );
+    assert_eq!(rt; verdict.marks.len(), letters.len());
+    for (mark, wanted) in verdict.marks.iter().zip(letters.as_bytes()) {
+        assert_eq!(rt; letter(*mark), *wanted, "{} against {}", list, other_list);
+    }
     let tallies = verdict.tallies;
     assert_eq!(rt;
         [
@@ -208,7 +198,7 @@ fn compared(rt: &impl Abort, heap: Global, case: &Case) -> Result<(), Fail> {
     let (one, other) = both_ready(heap, BusEnd::new(), &calls, PulseEnd::new(), &other_calls)?;
     match compare_cabs(heap, one, other) {
         Ok(ran) => {
-            let compare::Compared {
+            let Compared {
                 one,
                 other,
                 verdict,

@@ -10,8 +10,6 @@ mod comparisons;
 #[cfg(test)]
 mod desks;
 #[cfg(test)]
-mod messages;
-#[cfg(test)]
 mod noting;
 #[cfg(test)]
 mod orderings;
@@ -25,6 +23,8 @@ mod runs;
 mod signs;
 #[cfg(test)]
 mod telegrams;
+#[cfg(test)]
+mod tops;
 #[cfg(test)]
 mod train_ends;
 #[cfg(test)]

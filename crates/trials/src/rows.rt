@@ -1,19 +1,13 @@
+use crate::units::TRAIN;
 use cab_unit::Call;
 use columns::{
     AnswerColumns, COLUMNS, CallWords, Column, ColumnValue, HEADING, NoteColumns, first_difference,
 };
-use driver_desk::{Answer, Class, Level, Refusal, Request, TrainRecord};
+use driver_desk::{Answer, Class, Level, Refusal, Request};
 use plan::Note;
 use std::test::Fail;
 use telegram::{Fault, Mode, Order, Refused};
 use train_end::BrakeLine;
-
-const TRAIN: TrainRecord = TrainRecord {
-    driver: 12345678,
-    length: 400,
-    percentage: 120,
-    speed: 160,
-};
 
 #[test]
 fn calls_are_told(rt: HostRuntime) -> Result<(), Fail> {
@@ -116,7 +110,7 @@ fn differences(rt: HostRuntime) {
     for column in &COLUMNS {
         let mut other = changed(*column);
         assert!(rt; first_difference(&ANSWER, &other) == Some(*column));
-        // the last column behind it changes nothing
+        // where the last column differs too, the first is told
         other.withdrawn = 7;
         assert!(rt; first_difference(&other, &ANSWER) == Some(*column));
     }

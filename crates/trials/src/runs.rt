@@ -1,9 +1,9 @@
 use crate::cabs::{Done, both_ready, put_away, run_both, switch_off};
 use crate::noting::NotingEnd;
-use crate::units::outcome;
+use crate::units::{TRAIN, outcome};
 use bench::run_lent;
 use cab_unit::Call;
-use driver_desk::{Answer, TrainRecord};
+use driver_desk::Answer;
 use std::process::Abort;
 use std::test::Fail;
 use telegram::{Mode, Order};
@@ -98,13 +98,6 @@ fn speeds_are_told(rt: HostRuntime) -> Result<(), Fail> {
     answered(&rt, &other, &expected, &[None, Some(6), Some(6), None]);
     Ok(())
 }
-
-const TRAIN: TrainRecord = TrainRecord {
-    driver: 12345678,
-    length: 400,
-    percentage: 120,
-    speed: 160,
-};
 
 // Level 1, record, Start, Acknowledge: Staff Responsible.
 #[test]

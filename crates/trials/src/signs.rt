@@ -2,7 +2,7 @@ use cab_unit::Call;
 use std::alloc::{AllocError, Global};
 use telegram::Order;
 
-fn text(number: u8, wanted: bool, text: &[u8]) -> Call<'_> {
+pub fn text(number: u8, wanted: bool, text: &[u8]) -> Call<'_> {
     Call::Order(Order::Text {
         number,
         wanted,
@@ -10,8 +10,8 @@ fn text(number: u8, wanted: bool, text: &[u8]) -> Call<'_> {
     })
 }
 
-// The call that a sign stands for. A small digit or letter up to d is a text that wants acknowledgement, with that number to the base 16,
-// and a capital up to M one that wants none, with the letter's place; its words are the sign.
+// The call that a sign stands for. A digit or a small letter up to d is a text that wants acknowledgement, of that number to the base 16,
+// and a capital up to M one that wants none, numbered from 1; its words are the sign itself.
 fn call_of(sign: &[u8]) -> Call<'_> {
     match sign {
         // 0 and 5 km/h on the vehicle bus, 0 and 6 km/h in wheel pulses
@@ -22,11 +22,11 @@ fn call_of(sign: &[u8]) -> Call<'_> {
         [n @ b'0'..=b'9'] => text(*n - b'0', true, sign),
         [n @ b'a'..=b'd'] => text(*n - b'a' + 10, true, sign),
         [n @ b'A'..=b'M'] => text(*n - b'A' + 1, false, sign),
-        // text 4 once more, and without words
+        // text 4 with other words, and without words
         [b'='] => text(4, true, sign),
         [b'_'] => text(4, true, b""),
         [b'w'] => Call::Order(Order::TextWithdrawal(4)),
-        // Acknowledge, Level 0, Close desk
+        // the buttons Acknowledge, Level 0 and Close desk
         [b'!'] => Call::Press(1),
         [b'l'] => Call::Press(6),
         [b'x'] => Call::Press(9),

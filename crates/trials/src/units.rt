@@ -5,6 +5,13 @@ use std::test::Fail;
 use telegram::Order;
 use train_end::BusEnd;
 
+pub const TRAIN: TrainRecord = TrainRecord {
+    driver: 12345678,
+    length: 400,
+    percentage: 120,
+    speed: 160,
+};
+
 // 0, or the number of the refusal.
 pub fn outcome(answer: &Answer) -> u8 {
     match answer.outcome {
@@ -56,13 +63,6 @@ fn takes_when_standing(rt: HostRuntime) -> Result<(), Fail> {
     assert_eq!(rt; (refused, numbers), (14, 12345678));
     Ok(())
 }
-
-const TRAIN: TrainRecord = TrainRecord {
-    driver: 12345678,
-    length: 400,
-    percentage: 120,
-    speed: 160,
-};
 
 // Calls, and what their end has noted when the unit was switched on, made the calls up to this one, and was switched off.
 const NOTED: &[(Call<'static>, &str)] = &[

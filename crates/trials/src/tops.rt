@@ -12,6 +12,8 @@ const LISTS: &[(&str, &str)] = &[
     ("94o5", "9445"),
     // Of twelve lines that of text 12 makes room for text 13: when the others are acknowledged, 13 is left.
     ("1L23456789abM!!!!!!!!!!!", "111111111111123456789abM"),
+    // behind twelve that wait one more is refused
+    ("23456789abcd1", "2222222222222"),
     // withdrawn, and again, which is refused
     ("94ww", "9499"),
     // acknowledged
