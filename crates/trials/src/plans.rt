@@ -1,3 +1,4 @@
+use crate::units::TRAIN;
 use cab_unit::Call;
 use call_list::{Listed, read_list};
 use driver_desk::Refusal;
@@ -6,13 +7,22 @@ use std::alloc::Global;
 use std::test::Fail;
 use telegram::{Fault, Mode, Order, Refused};
 
-// The line of a row; the word and number of a note, or where an order stands in its telegram.
+// The line of a row; where an order stands in its telegram, or the word and number of a note and the place that it tells.
 fn told(row: &Row) -> (usize, &'static str, usize, usize) {
-    match row.told {
-        Told::Call(None) => (row.line, "call", 0, 0),
-        Told::Call(Some(Places { first, after })) => (row.line, "order", first, after),
-        Told::Note(note) => (row.line, note.name(), note.number() as usize, 0),
-    }
+    let (name, number, place) = match row.told {
+        Told::Call(None) => ("call", 0, 0),
+        Told::Call(Some(Places { first, after })) => ("order", first, after),
+        Told::Note(note) => (
+            note.name(),
+            note.number() as usize,
+            match note {
+                Note::Draft(_) => 0,
+                Note::Reading(Err(refused)) => refused.first,
+                Note::Reading(Ok(place)) => place,
+            },
+        ),
+    };
+    (row.line, name, number, place)
 }
 
 fn listed(heap: Global, text: &str) -> Result<Vec<Listed>, Fail> {
@@ -22,42 +32,40 @@ fn listed(heap: Global, text: &str) -> Result<Vec<Listed>, Fail> {
     }
 }
 
+const ROWS: &[(usize, &str, usize, usize)] = &[
+    (1, "order", 0, 3),
+    (1, "order", 3, 6),
+    (1, "fault", 23, 6),
+    (2, "draft", 11, 0),
+    (4, "call", 0, 0),
+    (5, "order", 0, 2),
+    (5, "end", 0, 2),
+    (6, "call", 0, 0),
+];
+
 // Orders in front of a fault are calls; a telegram's end, its fault and a refused draft are told and are none.
 #[test]
 fn calls_and_notes(rt: HostRuntime) -> Result<(), Fail> {
     let heap = rt.alloc();
     let list = listed(
         heap,
-        "telegram 1003404003071003C05002\nrecord 1 0 120 160\n\norder stop\ntelegram -\nrecord 1 400 120 160",
+        "telegram 1003404003071003C05002\nrecord 1 0 120 160\n\npress 10\ntelegram 6002\nrecord 12345678 400 120 160",
     )?;
     let plan = plan_list(heap, Cab::Bus, &list)?;
-    let calls = plan.calls.as_slice();
-    assert_eq!(rt; calls.len(), 4);
-    for (i, order) in [
-        Order::Authority(Mode::OnSight),
-        Order::TextWithdrawal(7),
-        Order::EmergencyStop,
-    ]
-    .iter()
-    .enumerate()
-    {
-        assert!(rt; calls[i] == Call::Order(*order));
-    }
-    let rows = plan.rows.as_slice();
-    assert_eq!(rt; rows.len(), 7);
-    for (i, wanted) in [
-        (1, "order", 0, 3),
-        (1, "order", 3, 6),
-        (1, "fault", 23, 0),
-        (2, "draft", 11, 0),
-        (4, "call", 0, 0),
-        (5, "end", 0, 0),
-        (6, "call", 0, 0),
-    ]
-    .iter()
-    .enumerate()
-    {
-        assert_eq!(rt; told(&rows[i]), *wanted);
+    assert_eq!(rt;
+        plan.calls.as_slice(),
+        [
+            Call::Order(Order::Authority(Mode::OnSight)),
+            Call::Order(Order::TextWithdrawal(7)),
+            Call::Press(10),
+            Call::Order(Order::Sign),
+            Call::Take(TRAIN),
+        ]
+        .as_slice()
+    );
+    assert_eq!(rt; plan.rows.len(), ROWS.len());
+    for (row, wanted) in plan.rows.iter().zip(ROWS) {
+        assert_eq!(rt; told(row), *wanted);
     }
     Ok(())
 }
