@@ -64,7 +64,7 @@ pub fn both_ready<'a, E: TrainEnd + Drop, F: TrainEnd + Drop>(
 }
 
 // Runs two cabs and switches their units off.
-pub fn run_both<'a, E: TrainEnd + Drop, F: TrainEnd + Drop>(
+pub fn run_two<'a, E: TrainEnd + Drop, F: TrainEnd + Drop>(
     heap: Global,
     one: E,
     calls: &'a [Call<'a>],

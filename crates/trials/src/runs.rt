@@ -1,4 +1,4 @@
-use crate::cabs::{Done, both_ready, put_away, run_both, switch_off};
+use crate::cabs::{Done, both_ready, put_away, run_two, switch_off};
 use crate::noting::NotingEnd;
 use crate::units::{TRAIN, outcome};
 use bench::run_lent;
@@ -39,7 +39,7 @@ fn answered<E>(
 #[test]
 fn a_third_make(rt: HostRuntime) -> Result<(), Fail> {
     let heap = rt.alloc();
-    let (one, other) = run_both(
+    let (one, other) = run_two(
         heap,
         NotingEnd::new(heap),
         &[
@@ -71,7 +71,7 @@ fn a_third_make(rt: HostRuntime) -> Result<(), Fail> {
 // Each end has its own speed after a block, and keeps it until the next one.
 #[test]
 fn speeds_are_told(rt: HostRuntime) -> Result<(), Fail> {
-    let (one, other) = run_both(
+    let (one, other) = run_two(
         rt.alloc(),
         BusEnd::new(),
         &[
@@ -102,7 +102,7 @@ fn speeds_are_told(rt: HostRuntime) -> Result<(), Fail> {
 // Level 1, record, Start, Acknowledge: Staff Responsible.
 #[test]
 fn a_start_at_level_1(rt: HostRuntime) -> Result<(), Fail> {
-    let (one, other) = run_both(
+    let (one, other) = run_two(
         rt.alloc(),
         BusEnd::new(),
         &[

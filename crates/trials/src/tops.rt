@@ -1,4 +1,4 @@
-use crate::cabs::run_both;
+use crate::cabs::run_two;
 use crate::signs::calls_of;
 use messages::top_messages;
 use std::alloc::Global;
@@ -28,7 +28,7 @@ const LISTS: &[(&str, &str)] = &[
 
 fn shows(rt: &impl Abort, heap: Global, signs: &[u8], words: &[u8]) -> Result<(), Fail> {
     let calls = calls_of(heap, signs)?;
-    let (done, _) = run_both(heap, BusEnd::new(), &calls, BusEnd::new(), &[])?;
+    let (done, _) = run_two(heap, BusEnd::new(), &calls, BusEnd::new(), &[])?;
     let tops = top_messages(heap, &calls, &done.answers)?;
     assert_eq!(rt; tops.len(), words.len());
     for (top, wanted) in tops.iter().zip(words.chunks(1)) {

@@ -1,4 +1,4 @@
-use crate::cabs::run_both;
+use crate::cabs::run_two;
 use crate::noting::NotingEnd;
 use cab_unit::{Answer, Call, Draft, TrainRecord, Unit};
 use std::test::Fail;
@@ -93,7 +93,7 @@ fn lines_and_blocks(rt: HostRuntime) -> Result<(), Fail> {
     let mut calls = Vec::new(heap);
     for (call, noted) in NOTED {
         calls.push(*call)?;
-        let (done, _) = run_both(heap, NotingEnd::new(heap), &calls, BusEnd::new(), &[])?;
+        let (done, _) = run_two(heap, NotingEnd::new(heap), &calls, BusEnd::new(), &[])?;
         assert_eq!(rt; done.end.notes.as_slice(), noted.as_bytes());
     }
     Ok(())
