@@ -1,3 +1,7 @@
+ghost use Rattle.std.specs.Prelude.{IfOk};
+ghost use Rattle.plan.specs.Calls.{list_or};
+ghost use Rattle.side_by_side.specs.Lists.{StatusOfLists};
+
 use crate::failure::Failure;
 use crate::notes::compare_notes;
 use crate::sides::{Side, Sides};
@@ -98,11 +102,13 @@ pub fn report_runs<'l, W: Write + Drop, S: Write + Drop>(
     tsv: bool,
     listed: &'l [Listed],
     second: Option<&'l [Listed]>,
-) -> Result<Status, Failure<'static>> {
+) -> Result<Status, Failure<'static>>
+    ensures { IfOk result (λ s. StatusOfLists listed.entry.now (list_or listed.entry.now second.entry) s) }
+{
     let plans = plan_lists(heap, &*listed, second)?;
-    let ready = ReadyCabs::new(heap, &plans, BusEnd::new(), PulseEnd::new()).map_err(
-        |_ends| Failure::NoMemory,
-    )?;
+    let Ok(ready) = ReadyCabs::new(heap, &plans, BusEnd::new(), PulseEnd::new()) else {
+        return Err(Failure::NoMemory);
+    };
     let both = ready.run(heap);
     let status = both.status();
     let BothCabs {

@@ -1,3 +1,4 @@
 pub mod Status
 pub mod Findings
 pub mod Cabs
+pub mod Lists

@@ -1,33 +1,11 @@
+use crate::cabs::{both_ready, put_away, switch_off};
+use crate::signs::{calls_of, text};
 use cab_unit::Call;
-use compare::{Run, Verdict, compare_runs, same_asked};
-use driver_desk::{Answer, Level, Refusal};
-use std::alloc::{AllocError, Global};
+use compare::{Compared, Mark, Tally, Verdict, compare_cabs, same_asked, same_message};
+use std::alloc::Global;
+use std::process::Abort;
 use std::test::Fail;
-use telegram::{Mode, Order};
-use train_end::{BrakeLine, BusEnd, PulseEnd};
-
-fn answer(outcome: Option<Refusal>, mode: Mode) -> Answer {
-    Answer {
-        outcome,
-        mode,
-        level: Level::Zero,
-        line: BrakeLine::Released,
-        buttons: 484,
-        waiting: 0,
-        first: None,
-        raised: None,
-        acknowledged: None,
-        withdrawn: 0,
-    }
-}
-
-fn text(number: u8, text: &[u8]) -> Call<'_> {
-    Call::Order(Order::Text {
-        number,
-        wanted: true,
-        text,
-    })
-}
+use train_end::{BusEnd, PulseEnd};
 
 #[test]
 fn calls_asked(rt: HostRuntime) {
@@ -36,173 +14,210 @@ fn calls_asked(rt: HostRuntime) {
         (Call::Cycle(&[]), Call::Press(1), false),
         (Call::Press(1), Call::Press(1), true),
         (Call::Press(1), Call::Press(2), false),
-        (text(7, b"Halt"), text(7, b"Halt"), true),
-        (text(7, b"Halt"), text(7, b"Hall"), false),
-        (text(7, b"Halt"), text(8, b"Halt"), false),
+        (text(7, true, b"Halt"), text(7, true, b"Halt"), true),
+        (text(7, true, b"Halt"), text(7, true, b"Hall"), false),
+        (text(7, true, b"Halt"), text(8, true, b"Halt"), false),
+        (text(7, true, b"Halt"), text(7, false, b"Halt"), false),
     ] {
         assert_eq!(rt; same_asked(&call, &other), same);
     }
 }
 
-// A call for each sign: a cycle that a bus end reads as 5 km/h, one that a pulse end reads as 0, the text 1 or 2, and else a press.
-fn call_of(sign: char) -> Call<'static> {
-    match sign {
-        '5' => Call::Cycle(&[0x80, 5]),
-        '0' => Call::Cycle(&[0, 0, 0, 0]),
-        '1' => text(1, b""),
-        '2' => text(2, b""),
-        _ => Call::Press(1),
+// A line without words is not the same as no line.
+#[test]
+fn messages_are_the_same(rt: HostRuntime) {
+    let words: [Option<&[u8]>; 4] = [None, Some(b""), Some(b"Halt"), Some(b"Hall")];
+    for (i, one) in words.iter().enumerate() {
+        for (k, other) in words.iter().enumerate() {
+            assert_eq!(rt; same_message(*one, *other), i == k);
+        }
     }
 }
 
-// An answer for each sign: accepted, in System Failure, and else refused.
-fn answer_of(sign: char) -> Answer {
-    match sign {
-        'y' => answer(None, Mode::Standby),
-        'f' => answer(None, Mode::SystemFailure),
-        _ => answer(Some(Refusal::TextWaits), Mode::Standby),
-    }
-}
+// How many samples were compared, how many of them differ, and the place of the first that differs.
+type Count = (usize, usize, Option<usize>);
 
-fn calls_of(heap: Global, signs: &str) -> Result<Vec<Call<'static>>, AllocError> {
-    let mut calls = Vec::new(heap);
-    for sign in signs.chars() {
-        calls.push(call_of(sign))?;
-    }
-    Ok(calls)
-}
+// Two lists in signs, the first for the bus cab and the other for the pulse cab; whether they are alike, what is compared of each place,
+// and what is found of speeds, answers and messages. Of a mark the first letter is told.
+struct Case(&'static str, &'static str, bool, &'static str, [Count; 3]);
 
-fn answers_of(heap: Global, signs: &str) -> Result<Vec<Answer>, AllocError> {
-    let mut answers = Vec::new(heap);
-    for sign in signs.chars() {
-        answers.push(answer_of(sign))?;
-    }
-    Ok(answers)
-}
-
-// What is found of two runs, each told by its calls and its answers.
-fn compared(heap: Global, run: (&str, &str), other: (&str, &str)) -> Result<Verdict, AllocError> {
-    let calls = calls_of(heap, run.0)?;
-    let answers = answers_of(heap, run.1)?;
-    let run = Run {
-        calls: &calls,
-        answers: &answers,
-    };
-    let calls = calls_of(heap, other.0)?;
-    let answers = answers_of(heap, other.1)?;
-    let other = Run {
-        calls: &calls,
-        answers: &answers,
-    };
-    compare_runs(heap, BusEnd::new(), run, PulseEnd::new(), other)
-}
-
-// Two runs; whether they are alike; after how many calls the speeds are unequal, how many answers are compared, and how many of these differ; which calls are marked.
-const RUNS: &[(
-    (&str, &str),
-    (&str, &str),
-    bool,
-    (usize, usize, usize),
-    &[bool],
-)] = &[
-    // no calls
-    (("", ""), ("", ""), true, (0, 0, 0), &[]),
-    // 5 km/h and 0 km/h after two calls, then a cycle whose block neither end is given
-    (
-        ("5p5", "yyf"),
-        ("0p0", "ynf"),
+const CASES: &[Case] = &[
+    Case("", "", true, "", [(0, 0, None), (0, 0, None), (0, 0, None)]),
+    // one list: each text has its answer and its message compared
+    Case(
+        "o21!x",
+        "O21!x",
         true,
-        (3, 3, 1),
-        &[false, false, false],
+        "CCCCC",
+        [(1, 0, None), (5, 0, None), (5, 0, None)],
     ),
-    // refused cycles give no block
-    (("5", "n"), ("0", "f"), true, (0, 1, 1), &[false]),
-    // accepted texts in another order, then a press
-    (
-        ("12p", "yyy"),
-        ("21p", "yyn"),
+    // behind twelve texts that wait a thirteenth is refused in both
+    Case(
+        "123456789abcd",
+        "213456789abcd",
         true,
-        (0, 1, 1),
-        &[true, true, false],
+        "ILCCCCCCCCCCC",
+        [(0, 0, None), (11, 0, None), (12, 0, None)],
     ),
-    // the same, one of them refused
-    (
-        ("12", "yn"),
-        ("21", "yy"),
-        false,
-        (0, 2, 1),
-        &[false, false],
-    ),
-    // other texts, and a text that changes places with a press
-    (
-        ("12", "yy"),
-        ("11", "yy"),
-        false,
-        (0, 2, 0),
-        &[false, false],
-    ),
-    (
-        ("p1", "yy"),
-        ("1p", "yy"),
-        false,
-        (0, 2, 0),
-        &[false, false],
-    ),
-    // texts in the same order, one list refused
-    (("12", "yy"), ("12", "nn"), true, (0, 2, 2), &[false, false]),
-    // a stretch, and a text beside a press
-    (
-        ("12p", "yyy"),
-        ("211", "yyy"),
-        false,
-        (0, 1, 0),
-        &[true, true, false],
-    ),
-    // a stretch, and the same texts again, one of them refused
-    (
-        ("1212", "yyyn"),
-        ("2112", "yyyn"),
+    // a stretch ends where the same texts came
+    Case(
+        "12345",
+        "21345",
         true,
-        (0, 2, 0),
-        &[true, true, false, false],
+        "ILCCC",
+        [(0, 0, None), (3, 0, None), (4, 0, None)],
     ),
-    // a stretch that the same texts do not end, and one in it
-    (
-        ("112p", "yyyy"),
-        ("211p", "yyyy"),
+    // two stretches behind each other
+    Case(
+        "1234",
+        "2143",
         true,
-        (0, 1, 0),
-        &[true, true, true, false],
+        "ILIL",
+        [(0, 0, None), (0, 0, None), (2, 0, None)],
     ),
-    // two stretches side by side, and a text that came in one of the lists alone
-    (
-        ("12211", "yyyyy"),
-        ("21122", "yyyyy"),
+    // a text that comes twice in a stretch
+    Case(
+        "AAB?",
+        "BAA?",
+        true,
+        "IILC",
+        [(0, 0, None), (1, 0, None), (2, 0, None)],
+    ),
+    // of two texts of one number the one that came last stands behind the stretch
+    Case(
+        "4D?",
+        "D4?",
+        true,
+        "ILC",
+        [(0, 0, None), (1, 0, None), (2, 2, Some(1))],
+    ),
+    // eleven lines, and two of a larger number in two orders, which do not fit: the last of the twelve makes room,
+    // and the other one is left when the eleven are acknowledged
+    Case(
+        "123456789abLM!!!!!!!!!!!",
+        "123456789abML!!!!!!!!!!!",
+        true,
+        "CCCCCCCCCCCILCCCCCCCCCCC",
+        [(0, 0, None), (22, 0, None), (23, 1, Some(23))],
+    ),
+    // a line without words against no line
+    Case(
+        "?_",
+        "??",
         false,
-        (0, 1, 0),
-        &[true, true, true, true, false],
+        "CC",
+        [(0, 0, None), (2, 1, Some(1)), (2, 1, Some(1))],
     ),
-    // answers past the marks are compared too
-    (("p", "yy"), ("p", "yn"), false, (0, 2, 1), &[false]),
-    // one answer more than calls, and one fewer
-    (("p", "y"), ("p", "yy"), false, (0, 1, 0), &[false]),
-    (("pp", "yy"), ("pp", "y"), false, (0, 1, 0), &[false]),
+    // 5 km/h against 6 at the second of three cycles
+    Case(
+        "ovo?",
+        "OVO?",
+        true,
+        "CCCC",
+        [(3, 1, Some(1)), (4, 0, None), (4, 0, None)],
+    ),
+    // one list goes on
+    Case(
+        "o?",
+        "O",
+        false,
+        "C",
+        [(1, 0, None), (1, 0, None), (1, 0, None)],
+    ),
+    // other calls, equal answers
+    Case(
+        "o?",
+        "Ol",
+        false,
+        "CC",
+        [(1, 0, None), (2, 0, None), (2, 0, None)],
+    ),
+    // a text changes places with a cycle, which is no sample of speed then
+    Case(
+        "o1o",
+        "OO1",
+        false,
+        "CCC",
+        [(1, 0, None), (3, 2, Some(1)), (3, 1, Some(1))],
+    ),
+    // texts that never come even
+    Case(
+        "123",
+        "234",
+        false,
+        "CCC",
+        [(0, 0, None), (3, 3, Some(0)), (3, 3, Some(0))],
+    ),
+    // a refused text is in no stretch
+    Case(
+        "442",
+        "424",
+        false,
+        "CCC",
+        [(0, 0, None), (3, 2, Some(1)), (3, 1, Some(1))],
+    ),
 ];
 
+fn count(tally: Tally) -> Count {
+    (tally.compared, tally.differing, tally.first)
+}
+
+fn letter(mark: Mark) -> u8 {
+    match mark {
+        Mark::Compared => b'C',
+        Mark::Inside => b'I',
+        Mark::Last => b'L',
+    }
+}
+
+fn as_found(rt: &impl Abort, verdict: &Verdict<'_>, case: &Case) {
+    let Case(list, other_list, alike, letters, counts) = case;
+    assert_eq!(rt; verdict.alike, *alike, "{} against {}", list, other_list);
+    assert_eq!(rt; verdict.marks.len(), letters.len());
+    for (mark, wanted) in verdict.marks.iter().zip(letters.as_bytes()) {
+        assert_eq!(rt; letter(*mark), *wanted, "{} against {}", list, other_list);
+    }
+    let tallies = verdict.tallies;
+    assert_eq!(rt;
+        [
+            count(tallies.speeds),
+            count(tallies.answers),
+            count(tallies.messages)
+        ],
+        *counts,
+        "{} against {}",
+        list,
+        other_list
+    );
+}
+
+// Runs a list in a bus cab and the other in a pulse cab, and holds what is found against what is expected.
+fn compared(rt: &impl Abort, heap: Global, case: &Case) -> Result<(), Fail> {
+    let calls = calls_of(heap, case.0.as_bytes())?;
+    let other_calls = calls_of(heap, case.1.as_bytes())?;
+    let (one, other) = both_ready(heap, BusEnd::new(), &calls, PulseEnd::new(), &other_calls)?;
+    match compare_cabs(heap, one, other) {
+        Ok(ran) => {
+            let Compared {
+                one,
+                other,
+                verdict,
+            } = ran;
+            let _runs = (switch_off(one), switch_off(other));
+            as_found(rt, &verdict?, case);
+            Ok(())
+        }
+        Err((one, other)) => {
+            let _ends = (put_away(one), put_away(other));
+            Err("the places do not fit".into())
+        }
+    }
+}
+
 #[test]
-fn runs_compared(rt: HostRuntime) -> Result<(), Fail> {
-    for (run, other, alike, counts, marks) in RUNS {
-        let verdict = compared(rt.alloc(), *run, *other)?;
-        assert_eq!(rt; verdict.likeness.alike, *alike);
-        assert_eq!(rt;
-            (
-                verdict.unequal,
-                verdict.counts.compared,
-                verdict.counts.differing
-            ),
-            *counts
-        );
-        assert_eq!(rt; verdict.likeness.reordered.as_slice(), *marks);
+fn cabs_compared(rt: HostRuntime) -> Result<(), Fail> {
+    for case in CASES {
+        compared(&rt, rt.alloc(), case)?;
     }
     Ok(())
 }

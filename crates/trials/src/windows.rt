@@ -38,13 +38,8 @@ fn one_line(rt: HostRuntime) {
 fn the_top_line(rt: HostRuntime) {
     let mut run = [line(0, 0, 0, 0); 3];
     let mut window = Window::new(&mut run);
-    let cases = [
-        (line(7, 9, 0, 0), Some(0)),
-        (line(7, 4, 0, 0), Some(0)),
-        (line(6, 1, 0, 0), Some(1)),
-    ];
-    for (new, top) in cases {
-        assert_eq!(rt; window.add(new), Ok(()));
+    for &(cycle, number, top) in &[(7, 9, Some(0)), (7, 4, Some(0)), (6, 1, Some(1))] {
+        assert_eq!(rt; window.add(line(cycle, number, 0, 0)), Ok(()));
         assert_eq!(rt; window.top(), top);
     }
     assert_eq!(rt;

@@ -1,0 +1,13 @@
+use Rattle.std.proofs.Common.{sym, refl, ap, ◌∙◌, subst}
+use Rattle.side_by_side.proofs.Listing.{Asked, status_of_lists}
+use Rattle.cabcheck.proofs.report.report_runs.Goals as goal
+
+pub returns : goal.returns
+returns g c =
+    let p = c.in_ok-plans.ensures in
+    let e = c.in-Ok.ensures in
+    let r = c.run-both.ensures in
+    status_of_lists _ _ c.in-Ok.ready c.run-both.result _ _ c.in_ok-finding.finding _
+    (record { bus_reads = refl; pulse_reads = refl; bus_new = ap (λ b. b.speed) e.ends.0 ∙ c.new.ensures.speed; pulse_new = ap (λ b. b.speed) e.ends.1 ∙ c.new-2.ensures.speed })
+    (subst (Asked _ _) (sym e.plans) (record { bus = p.bus_calls; pulse = p.pulse_calls; bus_rows = p.bus_rows; pulse_rows = p.pulse_rows }))
+    r.planned r.laws r.finding c.in_ok-finding.was c.status-status.ensures
