@@ -54,6 +54,6 @@ status_of_lists one other c both listed other_listed f s n a p l d e t =
       },
       subst (λ xs. FindingOf rs xs (rows_for other_listed) f) a.bus_rows (subst (λ ys. FindingOf rs (rows_of (plans_of c)) ys f) a.pulse_rows found),
       t
-      ∙ found_either ℕ ((vec_len both.bus.answers == 0) && (vec_len both.pulse.answers == 0)) both.finding f e
-      ∙ ap₂ (λ i j. found_status {X = ℕ} ((i == 0) && (j == 0)) (Ok f)) both.bus.answers.ok.0 both.pulse.answers.ok.0,
+          ∙ found_either ℕ ((vec_len both.bus.answers == 0) && (vec_len both.pulse.answers == 0)) both.finding f e
+          ∙ ap₂ (λ i j. found_status {X = ℕ} ((i == 0) && (j == 0)) (Ok f)) both.bus.answers.ok.0 both.pulse.answers.ok.0,
     )
