@@ -39,7 +39,7 @@ Compares P Q (o ∷ os) (x ∷ xs) (y ∷ ys) =
     (loose x y ≡ true → (SameCounts P Q → x.call ≡ y.call → o ≡ false) × Compares (x.call ∷ P) (y.call ∷ Q) os xs ys)
     × (loose x y ≡ false → (o ≡ false) × Compares [] [] os xs ys)
 
-none_accepted : (a : Answer) → a.outcome ≡ None → is_accepted a ≡ true
+pub none_accepted : (a : Answer) → a.outcome ≡ None → is_accepted a ≡ true
 none_accepted a h = ap (λ o. not (is_some o)) h
 
 more_counts : (e f : Event) (P Q : List Event) → e ≡ f → SameCounts P Q → SameCounts (e ∷ P) (f ∷ Q)

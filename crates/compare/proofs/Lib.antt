@@ -11,3 +11,4 @@ pub mod Walking
 pub mod Tallying
 pub mod Judging
 pub mod TwoCabs
+pub mod Unique

@@ -8,6 +8,7 @@ use Rattle.messages.specs.Shown.{Display, shown_before, messages_from}
 use Rattle.messages.specs.Standing.{LinesDiffer}
 use Rattle.compare.specs.Compared.{AgreeWhere, sampled, Covers, Fitting}
 use Rattle.compare.specs.Marks.{opens, shown_kept}
+use Rattle.compare.specs.Walked.{Compared}
 use Rattle.compare.specs.declared.marks.Mark.{Mark}
 
 -- a speed after each call of either run
@@ -36,3 +37,7 @@ LawFound s ms es as' fs bs =
 -- found alike exactly where the law says so, and marked exactly what it leaves open
 abbrev pub LawDecided : Bool → List Mark → List Event → List Answer → List Event → List Answer → Type 0
 LawDecided s ms es as' fs bs = (s ≡ true → LawApplies ms es as' fs bs) × LawFound s ms es as' fs bs
+
+-- of two runs one likeness is found, with its marks
+abbrev pub OneVerdict : Type 0
+OneVerdict = (s s' : Bool) (ms ms' : List Mark) (es fs : List Event) (as' bs : List Answer) → Compared s ms es as' fs bs → Compared s' ms' es as' fs bs → (s ≡ s') × (ms ≡ ms')

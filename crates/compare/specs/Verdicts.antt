@@ -90,3 +90,14 @@ pub record VerdictOf (rs : TwoRuns) (v : Verdict) : Type 0 where
   pub found : Found (lists_in rs.one) (lists_in rs.other) v
   pub decided : Decided (lists_in rs.one) (lists_in rs.other) v
   pub concluded : Concluded rs v
+
+-- the tallies are the same
+pub record SameTallies (t u : Tallies) : Type 0 where
+  pub speeds : t.speeds ≡ u.speeds
+  pub answers : t.answers ≡ u.answers
+  pub messages : t.messages ≡ u.messages
+
+-- of two runs with their marks and messages one tally is found
+abbrev pub OneTally : Type 0
+OneTally = (one other : Lists) (marks : List Mark) (shown other_shown : List (Option (List ℕ))) (t u : Tallies) →
+    TalliesOf one other marks shown other_shown t → TalliesOf one other marks shown other_shown u → SameTallies t u

@@ -5,6 +5,7 @@ mod account;
 mod asked;
 mod cabs;
 mod compare;
+mod laws;
 mod marks;
 mod run;
 mod tally;
@@ -12,6 +13,7 @@ mod verdict;
 
 pub use asked::same_asked;
 pub use cabs::{Compared, compare_cabs};
+pub use laws::verdicts_stand;
 pub use marks::Mark;
 pub use tally::Tally;
 pub use verdict::{Tallies, Verdict, same_message};
