@@ -70,7 +70,7 @@ impl<E: TrainEnd> Unit<E> {
         self.cab.answer(None, Done::default())
     }
 
-    // The speed of the unit's own end, in km/h, 0 to 600; none where it is unknown.
+    /// The speed of the unit's own end, in km/h, 0 to 600; none where it is unknown.
     pub fn speed(&self) -> Option<u16>
         ensures { result ≡ (view E.TrainEnd self.now.cab).speed }
     {

@@ -30,6 +30,11 @@ impl Line {
         Ok(())
     }
 
+    // Begins the line anew.
+    pub fn clear(&mut self) {
+        self.bytes.clear();
+    }
+
     // Prints the line without blanks at its end, and begins the next.
     pub fn print<W: Write>(&mut self, out: &mut W) -> io::Result<()> {
         out.write_all(self.bytes.trim_ascii_end())?;

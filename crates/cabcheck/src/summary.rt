@@ -1,11 +1,13 @@
 use crate::notes::NotesCompared;
 use crate::sides::{Answered, Entry, Sides};
 use crate::words::Message;
+use cab_unit::Call;
 use columns::{CallWords, ColumnValue, SpeedWords, first_difference};
-use compare::{Tallies, Tally, Verdict};
+use compare::{Tallies, Tally, Verdict, same_asked};
 use side_by_side::Status;
 use std::io::Write;
 use std::{fmt, io};
+use telegram::Order;
 
 // A number of things: the word for one, or for more.
 #[derive(Clone, Copy)]
@@ -16,6 +18,39 @@ impl fmt::Display for Count {
         let Count(number, one, more) = *self;
         let word = if number == 1 { one } else { more };
         write!(f, "{number} {word}")
+    }
+}
+
+// The calls of both cabs at a place: one where they are told in the same words.
+#[derive(Clone, Copy)]
+struct Calls<'p>(&'p Call<'p>, &'p Call<'p>);
+
+// The words of calls leave out blocks, the words of texts and the numbers of records.
+fn has_same_words(one: &Call<'_>, other: &Call<'_>) -> bool {
+    match (*one, *other) {
+        (
+            Call::Order(Order::Text { number, wanted, .. }),
+            Call::Order(
+                Order::Text {
+                    number: other_number,
+                    wanted: other_wanted,
+                    ..
+                },
+            ),
+        ) => number == other_number && wanted == other_wanted,
+        (Call::Take(_), Call::Take(_)) => true,
+        _ => same_asked(one, other),
+    }
+}
+
+impl fmt::Display for Calls<'_> {
+    fn fmt<W: fmt::Write>(&self, f: &mut fmt::Formatter<W>) -> fmt::Result {
+        let Calls(one, other) = *self;
+        if has_same_words(one, other) {
+            write!(f, "{}", CallWords(one))
+        } else {
+            write!(f, "{} <> {}", CallWords(one), CallWords(other))
+        }
     }
 }
 
@@ -48,7 +83,7 @@ impl fmt::Display for At {
             (true, Some(bus), None) => write!(f, "at line {bus} of the bus cab"),
             (true, None, Some(pulse)) => write!(f, "at line {pulse} of the pulse cab"),
             (_, Some(line), _) | (_, None, Some(line)) => write!(f, "at line {line}"),
-            (_, None, None) => f.write_str("behind the last line"),
+            (_, None, None) => Ok(()),
         }
     }
 }
@@ -110,7 +145,7 @@ fn print_answers<W: Write>(out: &mut W, sides: &Sides<'_, '_>, answers: &Tally) 
         && let Some(column) = first_difference(one.answer, other.answer)
     {
         let name = column.name();
-        let call = CallWords(one.call);
+        let call = Calls(one.call, other.call);
         let value = ColumnValue(column, one.answer);
         let other_value = ColumnValue(column, other.answer);
         write!(
@@ -132,7 +167,7 @@ fn print_messages<W: Write>(
         .first
         .and_then(|place| calls_at(sides, place))
     {
-        let call = CallWords(one.call);
+        let call = Calls(one.call, other.call);
         let message = Message(one.message);
         let other_message = Message(other.message);
         write!(

@@ -1,7 +1,7 @@
 use crate::line::Line;
 use crate::notes::NotesCompared;
 use crate::sides::{Answered, Entry, Item, Sides};
-use crate::words::{Message, Untold, Words};
+use crate::words::{Message, RecordWords, Untold, Words};
 use cab_unit::Call;
 use columns::{COLUMNS, CallWords, ColumnValue, RequestWords, outcome_number, same_part};
 use compare::{Mark, same_asked, same_message};
@@ -279,11 +279,20 @@ impl<W: Write> Table<'_, W> {
         let lines = if self.two_lists { 2 } else { 1 };
         self.line.left("", LINE_WIDTH * lines + CAB_WIDTH + 1)?;
         let mut first = true;
-        if !found.same_call
-            && let Some(untold) = Untold::of_call(one.call)
-            && let Some(other_untold) = Untold::of_call(other.call)
-        {
-            self.put_difference(&mut first, "call", untold, other_untold)?;
+        match Untold::of_calls(one.call, other.call) {
+            // In a stretch that came in another order other words are no difference.
+            _ if found.mark.is_open() => {}
+            Untold::Nothing => {}
+            Untold::Texts(text, other_text) => {
+                let text = Message(Some(text));
+                let other_text = Message(Some(other_text));
+                self.put_difference(&mut first, "call", text, other_text)?;
+            }
+            Untold::Records(train, other_train) => {
+                let train = RecordWords(train);
+                let other_train = RecordWords(other_train);
+                self.put_difference(&mut first, "call", train, other_train)?;
+            }
         }
         if found.answer_differs() {
             for column in COLUMNS {
@@ -298,6 +307,10 @@ impl<W: Write> Table<'_, W> {
             let message = Message(one.message);
             let other_message = Message(other.message);
             self.put_difference(&mut first, "message", message, other_message)?;
+        }
+        if first {
+            self.line.clear();
+            return Ok(());
         }
         self.end()
     }
@@ -335,19 +348,20 @@ impl<W: Write> Table<'_, W> {
         other: Option<&Entry<'_, '_>>,
         notes: &NotesCompared,
     ) -> io::Result<()> {
-        let differ = notes.differs(one.map(|entry| entry.row), other.map(|entry| entry.row));
-        let said = if differ { Said::Differ } else { Said::Nothing };
+        let bus = of_note(notes.differs(one.map(|entry| entry.row), None));
+        let pulse = of_note(notes.differs(None, other.map(|entry| entry.row)));
         if let (Some(entry), Some(other_entry)) = (one, other)
             && is_same_note(entry, other_entry)
+            && bus == pulse
         {
-            return self.print_both(said, entry, other_entry, Column::Blank);
+            return self.print_both(bus, entry, other_entry, Column::Blank);
         }
         if let Some(entry) = one {
-            self.begin(said, Some(entry.line), None, "bus")?;
+            self.begin(bus, Some(entry.line), None, "bus")?;
             self.put_or_nothing(one, Column::Blank)?;
         }
         if let Some(entry) = other {
-            self.begin(said, None, Some(entry.line), "pulse")?;
+            self.begin(pulse, None, Some(entry.line), "pulse")?;
             self.put_or_nothing(other, Column::Blank)?;
         }
         Ok(())
@@ -392,6 +406,11 @@ impl<W: Write> Table<'_, W> {
         self.line.put("first          bytes or km/h  message")?;
         self.end()
     }
+}
+
+// What is said of a note.
+fn of_note(differs: bool) -> Said {
+    if differs { Said::Differ } else { Said::Nothing }
 }
 
 fn is_same_note(one: &Entry<'_, '_>, other: &Entry<'_, '_>) -> bool {

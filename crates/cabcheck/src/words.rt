@@ -18,7 +18,8 @@ impl fmt::Display for Words<'_> {
     }
 }
 
-// A message where two are told beside each other: in quotation marks, or none where no line stands.
+// The words of a text where two are told beside each other: in quotation marks, with a \ before each " and \ in it,
+// or none where there is no line.
 #[derive(Clone, Copy)]
 pub struct Message<'s>(pub Option<&'s [u8]>);
 
@@ -26,41 +27,53 @@ impl fmt::Display for Message<'_> {
     fn fmt<W: fmt::Write>(&self, f: &mut fmt::Formatter<W>) -> fmt::Result {
         match self.0 {
             None => f.write_str("none"),
-            words => write!(f, "\"{}\"", Words(words)),
+            Some(words) => {
+                f.write_char('"')?;
+                for byte in words {
+                    if matches!(*byte, b'"' | b'\\') {
+                        f.write_char('\\')?;
+                    }
+                    f.write_char(*byte as char)?;
+                }
+                f.write_char('"')
+            }
         }
     }
 }
 
-// What the words of a call in its row leave out: the words of a text, and the numbers of a record.
+// What the words of two calls in their rows leave out: the words of two texts, or the numbers of two records.
 #[derive(Clone, Copy)]
 pub enum Untold<'s> {
-    Text(&'s [u8]),
-    Record(TrainRecord),
+    Nothing,
+    Texts(&'s [u8], &'s [u8]),
+    Records(TrainRecord, TrainRecord),
 }
 
 impl<'s> Untold<'s> {
-    pub fn of_call(call: &Call<'s>) -> Option<Untold<'s>> {
-        match *call {
-            Call::Order(Order::Text { text, .. }) => Some(Untold::Text(text)),
-            Call::Take(train) => Some(Untold::Record(train)),
-            _ => None,
+    pub fn of_calls(call: &Call<'s>, other: &Call<'s>) -> Untold<'s> {
+        match (*call, *other) {
+            (Call::Order(Order::Text { text, .. }), Call::Order(Order::Text { text: other, .. }))
+                if text != other => { Untold::Texts(text, other) }
+            (Call::Take(train), Call::Take(other)) if train != other => {
+                Untold::Records(train, other)
+            }
+            _ => Untold::Nothing,
         }
     }
 }
 
-impl fmt::Display for Untold<'_> {
+// The numbers of a record.
+#[derive(Clone, Copy)]
+pub struct RecordWords(pub TrainRecord);
+
+impl fmt::Display for RecordWords {
     fn fmt<W: fmt::Write>(&self, f: &mut fmt::Formatter<W>) -> fmt::Result {
-        match *self {
-            Untold::Text(text) => write!(f, "{}", Message(Some(text))),
-            Untold::Record(train) => {
-                let TrainRecord {
-                    driver,
-                    length,
-                    percentage,
-                    speed,
-                } = train;
-                write!(f, "{driver} {length} {percentage} {speed}")
-            }
-        }
+        let TrainRecord {
+            driver,
+            length,
+            percentage,
+            speed,
+        } = self.0;
+        write!(f, "{driver} {length} {percentage} {speed}")
     }
 }

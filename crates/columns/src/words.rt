@@ -8,7 +8,7 @@ use driver_desk::{Refusal, Request};
 use std::fmt;
 use telegram::Order;
 
-/// A call in the words of a call list.
+/// A call in the words of its row: an order as the lines of a call list have it without the word order, a cycle, a press, a taking.
 #[derive(Clone, Copy)]
 pub struct CallWords<'a>(pub &'a Call<'a>);
 

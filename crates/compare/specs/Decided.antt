@@ -28,7 +28,7 @@ LawApplies ms es as' fs bs =
     × ((d : Display) → Stands d → AnswersAgree k → Fitting k d → AgreeWhere (shown_kept ms) (messages_from d es as') (messages_from d fs bs))
 
 -- where the runs as told are alike, however that is shown, they are found alike, the samples of speed are equal,
--- and no place is left open but those that are open there
+-- and every marked place is left open there
 abbrev pub LawFound : Bool → List Mark → List Event → List Answer → List Event → List Answer → Type 0
 LawFound s ms es as' fs bs =
     (vs ws : List (Option ℕ)) → Speeds vs es ws fs → (length as' ≡ length es) → (length bs ≡ length fs) → (k : Alike (told es as' vs) (told fs bs ws)) →

@@ -54,8 +54,9 @@ pub record Found (one other : Lists) (v : Verdict) : Type 0 where
   pub other_messages : shown_words (vec_items v.other_messages) ≡ messages_of other.calls other.answers
   pub tallies : TalliesOf one other (vec_items v.marks) (messages_of one.calls one.answers) (messages_of other.calls other.answers) v.tallies
 
--- where the runs are alike by the law over runs, however that is shown, the places that it leaves open there are all that are marked;
--- and one way to show it leaves just those open
+-- found alike exactly where the likeness of the law over runs can be shown, whatever the speeds, and with no sample of speed that differs
+-- exactly where it can be shown of the runs as they are. However it is shown, a marked place is left open there;
+-- and it can be shown so that just the marked places are left open
 pub record Decided (one other : Lists) (v : Verdict) : Type 0 where
   pub alike : (v.alike ≡ true) ↔ Alike (unspeeded (told_in one)) (unspeeded (told_in other))
   pub likeness : Alike (told_in one) (told_in other) ↔ (v.alike ≡ true) × (v.tallies.speeds.differing ≡ 0)

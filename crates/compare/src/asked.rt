@@ -38,7 +38,7 @@ pub(crate) fn is_cycle(call: &Call<'_>) -> bool
     matches!(*call, Call::Cycle(_))
 }
 
-// The same call, whatever the block of a cycle.
+/// Whether two calls are the same, whatever the block of a cycle.
 pub fn same_asked(call: &Call<'_>, other: &Call<'_>) -> bool
     ensures { Decides result (unblocked (said call.now) ≡ unblocked (said other.now)) }
 {

@@ -1,14 +1,17 @@
 -- One list on two cabs: where the speeds were equal, nothing differs.
-use Rattle.std.proofs.Common.{◌≡◌, ℕ, zero, suc, ◌<◌, Bool, true, false, cond, not, ◌&&◌, ◌==◌, eqb, List, [], ◌∷◌, map, length, take, vec_items, vec_len, Ok, Err, Result, IfOk, Decides, sym, refl, ap, ◌∙◌, subst, ap₂, arith}
+use Rattle.std.proofs.Common.{◌≡◌, ℕ, zero, suc, ◌<◌, Bool, true, false, cond, not, ◌&&◌, ◌==◌, eqb, List, [], ◌∷◌, map, length, take, vec_items, vec_len, Ok, Err, Result, IfOk, IfErr, Decides, ◌+◌, sym, refl, ap, ◌∙◌, subst, ap₂, arith}
 use Rattle.std.proofs.lemmas.Bool.{cond-true, cond-false, ne_eqb, eq-eqb}
 use Rattle.bench.specs.Both.{TwoRuns, Laws}
 use Rattle.compare.specs.Compared.{AgreeWhere, Tallied}
 use Rattle.compare.specs.Verdicts.{SameList, SpeedsEqual, VerdictOf}
 use Rattle.compare.specs.declared.verdict.Verdict.{Verdict}
 use Rattle.compare.specs.declared.tally.Tally.{Tally}
+use Rattle.compare.proofs.Judging.{compared_length}
 use Rattle.compare.proofs.Tallying.{none_differs}
 use Rattle.compare.proofs.TwoCabs.{whole_defined}
+use Rattle.plan.specs.declared.lists.Plans.{Plans}
 use Rattle.plan.specs.declared.rows.Row.{Row}
+use Rattle.side_by_side.specs.Cabs.{calls_planned, rows_planned}
 use Rattle.side_by_side.specs.Findings.{FindingOf, agrees, found_status, notes_of}
 use Rattle.side_by_side.specs.declared.finding.Finding.{Finding}
 use Rattle.side_by_side.specs.declared.status.Status.TheVariants.{Agree, Differ, Trouble}
@@ -60,3 +63,15 @@ pub found_beside : (rs : TwoRuns) (rows other_rows : List Row) {X Y : Type 0} (r
     IfOk r (λ f. Decides f.notes_agree (notes_of (vec_items f.verdict.marks) rows ≡ notes_of (vec_items f.verdict.marks) other_rows)) → IfOk r (λ f. FindingOf rs rows other_rows f)
 found_beside rs rows other_rows (Ok f) w v e n = record { verdict = subst (λ x. IfOk x (λ y. VerdictOf rs y)) e v; notes = n }
 found_beside rs rows other_rows (Err x) w v e n = tt
+
+-- memory is wanting only where something is planned
+pub wants_memory : (rs : TwoRuns) (p : Plans) {X Y : Type 0} (r : Result Finding X) (w : Result Verdict Y) (n m : ℕ) → Laws rs → IfOk w (λ v. VerdictOf rs v) →
+    IfErr r (λ _. IfOk w (λ v. 0 < length (vec_items v.marks) + rows_planned p)) → IfErr w (λ _. 0 < n + m) → n ≡ length rs.one.calls → m ≡ length rs.other.calls → calls_planned p ≡ n + m →
+    IfErr r (λ _. 0 < calls_planned p + rows_planned p)
+wants_memory rs p (Ok f) w n m laws v e h a b c = tt
+wants_memory rs p (Err x) (Ok y) n m laws v e h a b c =
+    let o = whole_defined rs.one laws.defined.0 in
+    let q = whole_defined rs.other laws.defined.1 in
+    let l = compared_length v.found.likeness o.0 q.0 in
+    omega (arith, e, l, a, b, c)
+wants_memory rs p (Err x) (Err y) n m laws v e h a b c = omega (arith, h, c)

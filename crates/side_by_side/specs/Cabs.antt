@@ -1,5 +1,5 @@
 -- Both cabs, before and after their runs.
-use Rattle.std.specs.Prelude.{◌≡◌, ◌<◌, ◌&&◌, List, length, vec_items, vec_len, IfOk, ◌==◌}
+use Rattle.std.specs.Prelude.{◌≡◌, ℕ, ◌+◌, ◌<◌, ◌&&◌, List, length, vec_items, vec_len, IfOk, ◌==◌}
 use Rattle.train_end.specs.declared.end.TrainEnd.{Ghosts as EndMeaning}
 use Rattle.bench.specs.Both.{TwoRuns}
 use Rattle.bench.specs.View.{runs}
@@ -31,6 +31,13 @@ rows_of p = vec_items p.bus.rows
 
 abbrev pub other_rows_of : Plans → List Row
 other_rows_of p = vec_items p.pulse.rows
+
+-- how many calls and how many rows are planned for both
+abbrev pub calls_planned : Plans → ℕ
+calls_planned p = vec_len p.bus.calls + vec_len p.pulse.calls
+
+abbrev pub rows_planned : Plans → ℕ
+rows_planned p = vec_len p.bus.rows + vec_len p.pulse.rows
 
 -- one list was run: the rows of both cabs are the same, and their calls up to blocks
 abbrev pub OneList : Plans → TwoRuns → Type 0

@@ -1,7 +1,7 @@
-ghost use Rattle.std.specs.Prelude.{◌≡◌, vec_items, Ok, IfOk, IfErr, Decides};
+ghost use Rattle.std.specs.Prelude.{◌≡◌, ◌<◌, ◌+◌, length, vec_items, Ok, IfOk, IfErr, Decides};
 ghost use Rattle.bench.specs.Both.{Laws};
 ghost use Rattle.bench.specs.View.{ShownOn};
-ghost use Rattle.side_by_side.specs.Cabs.{OneListAgrees, Planned, other_rows_of, plans_of, ran, rows_of, status_of};
+ghost use Rattle.side_by_side.specs.Cabs.{OneListAgrees, Planned, calls_planned, rows_planned, other_rows_of, plans_of, ran, rows_of, status_of};
 ghost use Rattle.side_by_side.specs.Findings.{FindingOf, notes_of};
 
 use crate::finding::{Finding, notes_agree};
@@ -28,6 +28,7 @@ fn find<'a>(
 ) -> Result<Finding<'a>, AllocError>
     ensures verdict { IfOk result (λ f. verdict.entry ≡ Ok f.verdict) }
     ensures notes { IfOk result (λ f. Decides f.notes_agree (notes_of (vec_items f.verdict.marks) (rows_of plans.now) ≡ notes_of (vec_items f.verdict.marks) (other_rows_of plans.now))) }
+    ensures memory { IfErr result (λ _. IfOk verdict.entry (λ v. 0 < length (vec_items v.marks) + rows_planned plans.now)) }
 {
     let verdict = verdict?;
     let notes_agree = notes_agree(heap, &verdict.marks, &plans.bus.rows, &plans.pulse.rows)?;
@@ -49,6 +50,7 @@ impl<'p, 'a, E: TrainEnd + Drop, F: TrainEnd + Drop> ReadyCabs<'p, 'a, E, F> {
         ensures plans { IfOk result (λ c. plans_of c ≡ plans.entry.now) }
         ensures ends { IfOk result (λ c. (c.bus.end ≡ bus) × (c.pulse.end ≡ pulse)) }
         ensures back { IfErr result (λ ends. (ends.0 ≡ bus) × (ends.1 ≡ pulse)) }
+        ensures memory { IfErr result (λ _. 0 < calls_planned plans.entry.now) }
     {
         let bus = match Ready::new(heap, bus, &plans.bus.calls) {
             Ok(ready) => ready,
@@ -67,6 +69,7 @@ impl<'p, 'a, E: TrainEnd + Drop, F: TrainEnd + Drop> ReadyCabs<'p, 'a, E, F> {
         ensures laws { Laws (ran E.TrainEnd F.TrainEnd self.entry result) }
         ensures on { ShownOn (ran E.TrainEnd F.TrainEnd self.entry result) result.bus.on result.pulse.on }
         ensures finding { IfOk result.finding (λ f. FindingOf (ran E.TrainEnd F.TrainEnd self.entry result) (rows_of (plans_of self.entry)) (other_rows_of (plans_of self.entry)) f) }
+        ensures memory { IfErr result.finding (λ _. 0 < calls_planned (plans_of self.entry) + rows_planned (plans_of self.entry)) }
         ensures one_list { OneListAgrees (plans_of self.entry) (ran E.TrainEnd F.TrainEnd self.entry result) result }
     {
         let ReadyCabs { plans, bus, pulse } = self;

@@ -1,4 +1,4 @@
-ghost use Rattle.std.specs.Prelude.{◌≡◌, ◌<◌, map, length, vec_items, IfOk, IfErr, Decides};
+ghost use Rattle.std.specs.Prelude.{◌≡◌, ◌<◌, ◌+◌, map, length, IfOk, IfErr, Decides};
 ghost use Rattle.compare.specs.Marks.{is_inside};
 ghost use Rattle.side_by_side.specs.Findings.{agrees, notes_of};
 
@@ -28,9 +28,14 @@ impl Finding<'_> {
 }
 
 fn inside_marks(heap: Global, marks: &[Mark]) -> Result<Vec<bool>, AllocError>
-    ensures { IfOk result (λ v. v.items ≡ map is_inside marks.now) }
+    ensures inside { IfOk result (λ v. v.items ≡ map is_inside marks.now) }
+    ensures memory { IfErr result (λ _. 0 < length marks.now) }
 {
-    marks.iter().map(|mark| mark.is_inside()).collect(heap)
+    let mut inside = Vec::new(heap);
+    for mark in marks {
+        inside.push(mark.is_inside())?;
+    }
+    Ok(inside)
 }
 
 fn same_notes(one: &[Option<u8>], other: &[Option<u8>]) -> bool
@@ -46,7 +51,8 @@ pub(crate) fn notes_agree(
     rows: &[Row],
     other_rows: &[Row],
 ) -> Result<bool, AllocError>
-    ensures { IfOk result (λ b. Decides b (notes_of marks.now rows.now ≡ notes_of marks.now other_rows.now)) }
+    ensures agree { IfOk result (λ b. Decides b (notes_of marks.now rows.now ≡ notes_of marks.now other_rows.now)) }
+    ensures memory { IfErr result (λ _. 0 < length marks.now + length rows.now + length other_rows.now) }
 {
     let inside = inside_marks(heap, marks)?;
     let notes = note_trace(heap, rows, &inside)?;
