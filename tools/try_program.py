@@ -21,14 +21,14 @@ FULL_FILE = b"cabcheck: output: File too large (os error 27)\n"
 MORNING = TOP / "examples/morning.calls"
 BUFFER = 8192
 NO_MEMORY = b"cabcheck: not enough memory\n"
-NO_MEMORY_FOR_THE_LIST = b"cabcheck: -: out of memory\n"
+NO_MEMORY_FOR_THE_LIST = b"cabcheck: a: out of memory\n"
 
 
 def read(path):
     return path.read_bytes() if path.exists() else b""
 
 
-def run(words, stdin=b"", cwd=TOP, stdout=subprocess.PIPE, limits=()):
+def run(words, stdin=b"", cwd=TOP, stdout=subprocess.PIPE, stderr=subprocess.PIPE, limits=()):
     """The program's status, and what it printed."""
 
     def limit():
@@ -37,8 +37,8 @@ def run(words, stdin=b"", cwd=TOP, stdout=subprocess.PIPE, limits=()):
         for which, most in limits:
             resource.setrlimit(which, (most, most))
 
-    ran = subprocess.run([PROGRAM, *words], input=stdin, cwd=cwd, stdout=stdout, stderr=subprocess.PIPE, preexec_fn=limit)
-    return ran.returncode, ran.stdout or b"", ran.stderr
+    ran = subprocess.run([PROGRAM, *words], input=stdin, cwd=cwd, stdout=stdout, stderr=stderr, preexec_fn=limit)
+    return ran.returncode, ran.stdout or b"", ran.stderr or b""
 
 
 def differences(name, wanted, came):
@@ -66,7 +66,7 @@ def long_list(shift):
 
 
 def try_full_file(folder):
-    """Where a file takes no more bytes, that is what is told, and what stands there is how the output begins.
+    """Where a file takes no more bytes, that alone is told, and what stands there is how the output begins.
 
     The program writes when its buffer of 8192 bytes is full, and at the end: so the file is full at once, after one
     buffer, and, where all fits into one, a byte before the end.
@@ -83,38 +83,50 @@ def try_full_file(folder):
             with open(printed, "wb") as out:
                 status, _, stderr = run(words, text, stdout=out, limits=[(resource.RLIMIT_FSIZE, most)])
             name = f"full file, {words}, {len(text)} bytes of calls, {most} bytes taken"
-            told += differences(name, (1, whole[:most], FULL_FILE), (status, printed.read_bytes(), stderr))
+            told += differences(name, (2, whole[:most], FULL_FILE), (status, printed.read_bytes(), stderr))
     return told
 
 
-def try_little_memory():
-    """Where memory is wanting, that is what is told, and what was printed is how the output begins.
+def try_little_memory(folder):
+    """Where memory is wanting, that alone is told, and what was printed is how the output begins.
 
-    The limits are those of this list: from the least with which the program starts to more than it needs. Long texts
-    want memory while rows are printed.
+    The program has somewhat more memory than it wants to start, and the lists grow. Their last texts differ, and the
+    row that tells so is long: among the lists that just do not fit are some that have no memory left for it alone.
     """
     told = []
-    text = f"telegram 30cc0100{200 * '61'}\n".encode() * 3000
-    _, whole, _ = run([], text)
     came = set()
-    for kilobytes in range(4096, 8192, 128):
-        status, stdout, stderr = run([], text, limits=[(resource.RLIMIT_AS, kilobytes * 1024)])
-        if status == 1 and stderr in (NO_MEMORY_FOR_THE_LIST, NO_MEMORY) and whole.startswith(stdout):
+    starts = (kilobytes for kilobytes in range(1024, 65536, 16) if run(["--version"], limits=memory(kilobytes))[0] == 0)
+    kilobytes = next(starts) + 192
+    for rows in [*range(300, 700, 4), 16000]:
+        for name, letter in (("a", "e4"), ("b", "e5")):
+            (folder / name).write_text("order sign\n" * rows + f"telegram 30cc0100{200 * letter}\n")
+        words = ["--second", "b", "a"]
+        _, whole, _ = run(words, cwd=folder)
+        status, stdout, stderr = run(words, cwd=folder, limits=memory(kilobytes))
+        if status == 2 and stderr in (NO_MEMORY_FOR_THE_LIST, NO_MEMORY) and whole.startswith(stdout):
             came.add("wanting to read the list" if stderr == NO_MEMORY_FOR_THE_LIST else "wanting while rows are printed" if stdout else "wanting before")
-        elif (status, stdout, stderr) == (0, whole, b""):
+        elif (status, stdout, stderr) == (1, whole, b""):
             came.add("enough")
         else:
-            told.append(f"little memory, {kilobytes} kB: status {status}, {len(stdout)} bytes, {stderr}")
+            told.append(f"little memory, {kilobytes} kB for {rows} rows: status {status}, {len(stdout)} bytes, {stderr}")
     every = {"wanting to read the list", "wanting before", "wanting while rows are printed", "enough"}
     return told + [f"little memory: it was never {it}" for it in sorted(every - came)]
 
 
+def memory(kilobytes):
+    return [(resource.RLIMIT_AS, kilobytes * 1024)]
+
+
 def try_closed_pipe():
-    """Whoever reads has closed the pipe: the status is 1, and nothing is said."""
-    reader, writer = os.pipe()
-    os.close(reader)
-    with open(writer, "wb") as out:
-        return differences("closed pipe", (1, b"", b""), run([MORNING], stdout=out))
+    """Whoever reads the table, or the last lines that stand behind rows, has closed the pipe: nothing is said."""
+    told = []
+    _, rows, _ = run(["--tsv", MORNING])
+    for words, closed, wanted in (([], "stdout", b""), (["--tsv"], "stderr", rows)):
+        reader, writer = os.pipe()
+        os.close(reader)
+        with open(writer, "wb") as out:
+            told += differences(f"closed pipe, {words}", (2, wanted, b""), run([*words, MORNING], **{closed: out}))
+    return told
 
 
 def main():
@@ -124,8 +136,8 @@ def main():
     cases = sorted(path for path in (TOP / "cases").iterdir() if path.is_dir())
     told = [line for case in cases for line in try_case(case)]
     told += try_closed_pipe()
-    told += try_little_memory()
     with tempfile.TemporaryDirectory() as folder:
+        told += try_little_memory(Path(folder))
         told += try_full_file(Path(folder))
     print("\n".join(told), end="\n" if told else "")
     return 1 if told or not cases else 0
