@@ -6,7 +6,7 @@ use Rattle.cab_unit.specs.Steps.{switched_on}
 use Rattle.driver_desk.specs.declared.answer.Answer.{Answer}
 use Rattle.bench.specs.Both.{AsDefined, TwoRuns, Each, Laws}
 use Rattle.bench.specs.Laws.{ByTheBook, ConfirmedOnce, SpeedsRead, AlikeEndEqual}
-use Rattle.bench.specs.Runs.{after, answers, speeds, Run, run_of}
+use Rattle.bench.specs.Runs.{after, answers, speeds, Run}
 use Rattle.bench.proofs.Balance.{book_law}
 use Rattle.bench.proofs.Likely.{likeness_law, speed_law}
 use Rattle.bench.proofs.Standing.{entry_law}

@@ -1,7 +1,7 @@
 -- Lists that are walked and found alike: where the samples of speed were equal, the runs as told are alike.
-use Rattle.std.proofs.Common.{◌≡◌, ℕ, zero, suc, ◌+◌, ◌≤◌, Bool, true, false, cond, not, ◌&&◌, List, [], ◌∷◌, ◌++◌, map, length, take, drop, replicate, Some, None, Option, sym, refl, ap, ◌∙◌, subst, ap₂, subst₂, ⊎_elim, arith}
+use Rattle.std.proofs.Common.{◌≡◌, ℕ, zero, suc, ◌≤◌, Bool, true, false, ◌&&◌, List, [], ◌∷◌, ◌++◌, length, take, drop, replicate, Option, sym, refl, ap, ◌∙◌, subst, ap₂, subst₂, ⊎_elim, arith}
 use Rattle.std.proofs.lemmas.List.{length-take-le}
-use Rattle.std.proofs.lemmas.Bool.{true≢false, false≢true, cases_Bool}
+use Rattle.std.proofs.lemmas.Bool.{false≢true, cases_Bool}
 use Rattle.cab_unit.specs.Events.{Event, Event.cycle, Event.order, Event.press, Event.take as taken, is_cycle, is_text, unblocked}
 use Rattle.driver_desk.specs.declared.answer.Answer.{Answer}
 use Rattle.ordering.specs.Shuffle.{Shuffle}
@@ -12,12 +12,11 @@ use Rattle.messages.proofs.Runs.{after_calls_texts, rising_after, rising_after_c
 use Rattle.messages.proofs.Stretch.{stretch_law}
 use Rattle.compare.specs.Compared.{AgreeWhere, sampled, Fitting}
 use Rattle.compare.specs.Decided.{Speeds, Stands, LawApplies}
-use Rattle.compare.specs.Marks.{is_open, is_inside, opens, shown_kept, stretch_marks}
+use Rattle.compare.specs.Marks.{opens, shown_kept, stretch_marks}
 use Rattle.compare.specs.declared.marks.Mark.{Mark}
-use Rattle.compare.specs.declared.marks.Mark.TheVariants.{Compared, Inside, Last}
+use Rattle.compare.specs.declared.marks.Mark.TheVariants.{Compared}
 use Rattle.compare.specs.Walked.{Texts, Accepted, Within, Front.same, Front.other as other_call, Front.stretch, Front.apart, Walked, Walked.ended, Walked.more}
 use Rattle.compare.proofs.Asking.{same-cycles, same-call, same_behind}
-use Rattle.compare.proofs.Shuffling.{shuffle_length}
 
 -- a text is no cycle
 pub text_no_cycle : (e : Event) → is_text e ≡ true → is_cycle e ≡ false

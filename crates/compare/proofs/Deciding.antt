@@ -1,6 +1,6 @@
 -- Where the law finds two runs alike, so does the walk, and no derivation leaves a place open but those that are marked.
-use Rattle.std.proofs.Common.{◌≡◌, ℕ, zero, suc, ◌+◌, ◌<◌, ◌≤◌, Bool, true, false, cond, not, ◌&&◌, List, [], ◌∷◌, ◌++◌, map, length, take, drop, replicate, is_some, Some, None, Option, sym, refl, ap, ◌∙◌, subst, ap₂, subst₂, ⊎_elim, arith}
-use Rattle.std.proofs.lemmas.Bool.{true≢false, false≢true, and_parts, and_from, and_left, cases_Bool}
+use Rattle.std.proofs.Common.{◌≡◌, ℕ, zero, suc, ◌+◌, ◌<◌, Bool, true, false, cond, not, ◌&&◌, List, [], ◌∷◌, ◌++◌, map, length, take, drop, replicate, is_some, None, Option, sym, refl, ap, ◌∙◌, subst, ap₂, subst₂, ⊎_elim, arith}
+use Rattle.std.proofs.lemmas.Bool.{true≢false, false≢true, and_parts, and_from, cases_Bool}
 use Rattle.cab_unit.specs.Events.{Event, Event.cycle, Event.order, Event.press, Event.take as taken, is_cycle, is_text, unblocked}
 use Rattle.driver_desk.specs.Answers.{is_accepted}
 use Rattle.driver_desk.specs.declared.answer.Answer.{Answer}
@@ -8,7 +8,7 @@ use Rattle.ordering.specs.Shuffle.{Shuffle}
 use Rattle.bench.specs.Likeness.{Told, told, calls_of, AcceptedTexts, Alike, Alike.ended as nothing, Alike.cycles, Alike.other as equals, Alike.texts as stretches, left_open}
 use Rattle.compare.specs.Compared.{AgreeWhere, sampled, Covers}
 use Rattle.compare.specs.Decided.{Speeds, LawFound}
-use Rattle.compare.specs.Marks.{opens, stretch_marks}
+use Rattle.compare.specs.Marks.{opens}
 use Rattle.compare.specs.declared.marks.Mark.{Mark}
 use Rattle.compare.specs.Walked.{Loose, text_next, Front.same, Front.other, Front.stretch, Front.apart, Walked, Walked.ended, Walked.more, Compared, Compared.whole, Compared.cut}
 use Rattle.compare.proofs.Asking.{same-call}

@@ -1,14 +1,14 @@
 -- What is found of two runs, and what that says of their likeness.
-use Rattle.std.proofs.Common.{◌≡◌, ℕ, zero, suc, ◌+◌, ◌<◌, ◌≤◌, Bool, true, false, not, ◌&&◌, List, [], ◌∷◌, ◌++◌, map, length, min, take, drop, replicate, vec_items, None, Option, sym, refl, ap, ◌∙◌, subst, ap₂, subst₂, arith}
-use Rattle.std.proofs.lemmas.Bool.{true≢false, false≢true}
+use Rattle.std.proofs.Common.{◌≡◌, ℕ, zero, suc, ◌≤◌, Bool, true, false, not, List, [], ◌∷◌, ◌++◌, map, length, min, take, replicate, vec_items, None, Option, sym, refl, ap, ◌∙◌, subst, subst₂, arith}
+use Rattle.std.proofs.lemmas.Bool.{false≢true}
 use Rattle.std.proofs.lemmas.List.{length-append, length-drop, take_all}
-use Rattle.cab_unit.specs.Events.{Event, is_cycle}
+use Rattle.cab_unit.specs.Events.{Event}
 use Rattle.driver_desk.specs.declared.answer.Answer.{Answer}
-use Rattle.bench.specs.Likeness.{Told, told, calls_of, AcceptedTexts, Alike, Alike.ended as nothing, Alike.cycles, Alike.other as equals, Alike.texts as stretches, AnswersAgree, left_open}
+use Rattle.bench.specs.Likeness.{Told, told, calls_of, Alike, Alike.ended as nothing, Alike.cycles, Alike.other as equals, Alike.texts as stretches, AnswersAgree, left_open}
 use Rattle.messages.specs.Shown.{dark, messages_of}
 use Rattle.compare.specs.Compared.{AgreeWhere, Tallied, sampled, unspeeded}
 use Rattle.compare.specs.Decided.{Speeds, LawDecided}
-use Rattle.compare.specs.Marks.{is_open, opens, kept, shown_kept, stretch_marks, marks_of}
+use Rattle.compare.specs.Marks.{is_open, opens, kept, marks_of}
 use Rattle.compare.specs.Verdicts.{Lists, Whole, told_in, Found, Decided}
 use Rattle.compare.specs.Walked.{Walked, Walked.ended, Walked.more, AsLong, Compared, Compared.whole, Compared.cut}
 use Rattle.compare.specs.declared.marks.Mark.{Mark}

@@ -1,10 +1,10 @@
 -- The tally of two lists, place by place, and what it says where nothing differs.
-use Rattle.std.proofs.Common.{◌≡◌, ◌↔◌, ℕ, zero, suc, ◌+◌, ◌<◌, ◌≤◌, Bool, true, false, not, ◌&&◌, List, [], ◌∷◌, ◌++◌, map, length, get_or, take, Some, None, Option, Decides, min, sym, refl, ap, ◌∙◌, subst, subst₂, ap₂, arith}
+use Rattle.std.proofs.Common.{◌≡◌, ◌↔◌, ℕ, zero, suc, ◌+◌, ◌<◌, ◌≤◌, Bool, true, false, not, ◌&&◌, List, [], ◌∷◌, ◌++◌, map, length, get_or, take, None, Option, Decides, min, sym, refl, ap, ◌∙◌, subst, subst₂, arith}
 use Rattle.std.proofs.lemmas.Bool.{false≢true}
 use Rattle.std.proofs.lemmas.List.{take_more, get_or-map, length-map, length-take-le}
 use Rattle.std.specs.Borrow.{Bor}
 use Rattle.cab_unit.specs.declared.call.Call.{Call}
-use Rattle.cab_unit.specs.Events.{Event, said, is_cycle}
+use Rattle.cab_unit.specs.Events.{said, is_cycle}
 use Rattle.messages.specs.Texts.{words}
 use Rattle.compare.specs.Compared.{AgreeWhere, Tallied, Tallied.nothing, Tallied.left_out, Tallied.equal, Tallied.differs, none_compared, one_equal, one_differs, tally_with, sampled}
 use Rattle.compare.specs.Marks.{is_open, is_inside, kept, shown_kept}

@@ -1,19 +1,18 @@
 -- Two cabs that were run: what is found of their runs, and what the laws over runs then say.
-use Rattle.std.proofs.Common.{◌≡◌, ℕ, suc, ◌+◌, ◌≤◌, Bool, true, false, ◌&&◌, List, [], ◌∷◌, map, length, vec_items, Option, Ok, Err, Result, IfOk, sym, refl, ap, ◌∙◌, subst, subst₂, ap₂, ⊎_elim, arith}
+use Rattle.std.proofs.Common.{◌≡◌, ℕ, suc, true, ◌&&◌, List, [], ◌∷◌, map, length, Option, Ok, Err, Result, IfOk, sym, refl, ap, ◌∙◌, subst, subst₂, ap₂, ⊎_elim, arith}
 use Rattle.std.proofs.lemmas.Bool.{cases_Bool}
 use Rattle.cab_unit.specs.Events.{Event, is_cycle}
 use Rattle.driver_desk.specs.declared.answer.Answer.{Answer}
 use Rattle.bench.specs.Both.{AsDefined, Each, TwoRuns, Laws}
-use Rattle.bench.specs.Laws.{AlikeEndEqual, told_of}
-use Rattle.bench.specs.Likeness.{Told, told, Alike, Alike.ended as nothing, Alike.cycles, Alike.other, AnswersAgree}
-use Rattle.bench.specs.Runs.{Run, run_of, out_by}
-use Rattle.cab_unit.specs.State.{State}
+use Rattle.bench.specs.Laws.{AlikeEndEqual}
+use Rattle.bench.specs.Likeness.{told, Alike, Alike.ended as nothing, Alike.cycles, Alike.other, AnswersAgree}
+use Rattle.bench.specs.Runs.{Run, out_by}
 use Rattle.cab_unit.specs.Steps.{next, reply, switched_on}
-use Rattle.messages.specs.Shown.{Display, dark, after_call, top, messages_from, messages_of}
+use Rattle.messages.specs.Shown.{Display, dark, after_call, top, messages_from}
 use Rattle.cab_unit.specs.Events.{unblocked}
 use Rattle.compare.specs.Compared.{AgreeWhere, sampled}
 use Rattle.compare.specs.Decided.{Speeds}
-use Rattle.compare.specs.Verdicts.{Lists, lists_in, Whole, told_in, Found, Decided, SameList, SpeedsEqual, Concluded, VerdictOf}
+use Rattle.compare.specs.Verdicts.{Lists, lists_in, Whole, Found, Decided, SameList, SpeedsEqual, Concluded, VerdictOf}
 use Rattle.compare.specs.declared.verdict.Verdict.{Verdict}
 use Rattle.compare.proofs.Asking.{same-cycles, same-call, same_behind}
 use Rattle.compare.proofs.Judging.{compared_length, compared_long, then_none, told-unspeeded, none_of, nones_agree, length-nones}

@@ -1,7 +1,7 @@
 -- The walk of two runs finds one thing: two walks of the same runs find the same.
 use Rattle.std.proofs.Common.{◌≡◌, ℕ, zero, suc, ◌<◌, ◌≤◌, Bool, true, false, ◌&&◌, List, [], ◌∷◌, ◌++◌, length, take, drop, sym, refl, ap, ◌∙◌, subst, ap₂, ⊎_elim, arith}
 use Rattle.std.proofs.lemmas.List.{length-append}
-use Rattle.std.proofs.lemmas.Bool.{true≢false, and_from, and_parts, and_left, and_right, cases_lt}
+use Rattle.std.proofs.lemmas.Bool.{true≢false, and_from, and_parts, cases_lt}
 use Rattle.cab_unit.specs.Events.{Event, unblocked, is_text}
 use Rattle.driver_desk.specs.Answers.{is_accepted}
 use Rattle.driver_desk.specs.declared.answer.Answer.{Answer}
@@ -9,7 +9,7 @@ use Rattle.ordering.specs.Shuffle.{Shuffle}
 use Rattle.compare.specs.Decided.{OneVerdict}
 use Rattle.compare.specs.Verdicts.{OneTally}
 use Rattle.compare.specs.Marks.{marks_of}
-use Rattle.compare.specs.Walked.{Loose, Apart, text_next, Front, Front.same, Front.other, Front.stretch, Front.apart, Walked, Walked.ended, Walked.more, AsLong, shortest, Compared, Compared.whole, Compared.cut}
+use Rattle.compare.specs.Walked.{Loose, text_next, Front, Front.same, Front.other, Front.stretch, Front.apart, Walked, Walked.ended, Walked.more, Compared, Compared.whole, Compared.cut}
 use Rattle.compare.specs.Compared.{Tallied, Tallied.nothing, Tallied.left_out, Tallied.equal, Tallied.differs, one_equal, one_differs}
 use Rattle.compare.specs.declared.marks.Mark.{Mark}
 use Rattle.compare.specs.declared.tally.Tally.{Tally}

@@ -1,11 +1,9 @@
 -- What the comparing of two runs finds: speeds, answers and messages that differ, and what the likeness of the runs leaves open.
-use Rattle.std.specs.Prelude.{◌≡◌, ◌↔◌, ℕ, ◌+◌, Bool, true, false, not, ◌&&◌, List, [], ◌∷◌, ◌++◌, map, length, take, vec_items, Some, None, Option, ◌≢◌}
+use Rattle.std.specs.Prelude.{◌≡◌, ℕ, ◌+◌, Bool, true, false, ◌&&◌, List, [], ◌∷◌, ◌++◌, map, length, Some, None, Option, ◌≢◌}
 use Rattle.cab_unit.specs.Events.{Event, is_cycle}
-use Rattle.driver_desk.specs.declared.answer.Answer.{Answer}
-use Rattle.bench.specs.Likeness.{Told, told, calls_of, Alike, Alike.ended, Alike.cycles, Alike.other, Alike.texts, AnswersAgree, left_open}
-use Rattle.messages.specs.Shown.{Display, dark, after_call, messages_of}
+use Rattle.bench.specs.Likeness.{Told, calls_of, Alike, Alike.ended, Alike.cycles, Alike.other, Alike.texts}
+use Rattle.messages.specs.Shown.{Display, after_call}
 use Rattle.messages.specs.Stretches.{Fits, after_texts}
-use Rattle.compare.specs.Marks.{opens, kept, shown_kept}
 use Rattle.compare.specs.declared.tally.Tally.{Tally}
 
 -- what stands at the kept places of two lists is equal

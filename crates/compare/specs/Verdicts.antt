@@ -1,5 +1,5 @@
 -- What is found of two runs, and what that says of them.
-use Rattle.std.specs.Prelude.{◌≡◌, ◌↔◌, ℕ, Bool, true, List, map, length, take, vec_items, Option}
+use Rattle.std.specs.Prelude.{◌≡◌, ◌↔◌, ℕ, true, List, map, length, take, vec_items, Option}
 use Rattle.std.specs.Borrow.{Bor}
 use Rattle.cab_unit.specs.Events.{Event, said}
 use Rattle.driver_desk.specs.declared.answer.Answer.{Answer}

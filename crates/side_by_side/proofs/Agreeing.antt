@@ -1,6 +1,6 @@
 -- One list on two cabs: where the speeds were equal, nothing differs.
-use Rattle.std.proofs.Common.{◌≡◌, ℕ, zero, suc, ◌<◌, Bool, true, false, cond, not, ◌&&◌, ◌==◌, eqb, List, [], ◌∷◌, map, length, take, vec_items, vec_len, Ok, Err, Result, IfOk, IfErr, Decides, ◌+◌, sym, refl, ap, ◌∙◌, subst, ap₂, arith}
-use Rattle.std.proofs.lemmas.Bool.{cond-true, cond-false, ne_eqb, eq-eqb}
+use Rattle.std.proofs.Common.{◌≡◌, ℕ, zero, suc, ◌<◌, Bool, true, false, ◌&&◌, ◌==◌, List, [], ◌∷◌, length, take, vec_items, Ok, Err, Result, IfOk, IfErr, Decides, ◌+◌, sym, refl, ap, ◌∙◌, subst, arith}
+use Rattle.std.proofs.lemmas.Bool.{ne_eqb, eq-eqb}
 use Rattle.bench.specs.Both.{TwoRuns, Laws}
 use Rattle.compare.specs.Compared.{AgreeWhere, Tallied}
 use Rattle.compare.specs.Verdicts.{SameList, SpeedsEqual, VerdictOf}
@@ -14,7 +14,7 @@ use Rattle.plan.specs.declared.rows.Row.{Row}
 use Rattle.side_by_side.specs.Cabs.{calls_planned, rows_planned}
 use Rattle.side_by_side.specs.Findings.{FindingOf, agrees, found_status, notes_of}
 use Rattle.side_by_side.specs.declared.finding.Finding.{Finding}
-use Rattle.side_by_side.specs.declared.status.Status.TheVariants.{Agree, Differ, Trouble}
+use Rattle.side_by_side.specs.declared.status.Status.TheVariants.{Agree}
 
 agree_itself : {X : Type 0} (ks : List Bool) (xs : List X) → AgreeWhere ks xs xs
 agree_itself [] xs = tt

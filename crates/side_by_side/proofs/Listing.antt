@@ -1,9 +1,9 @@
 -- The status of what call lists ask of two cabs.
-use Rattle.std.proofs.Common.{◌≡◌, ℕ, Bool, ◌&&◌, ◌==◌, List, length, vec_items, vec_len, Ok, Err, Result, None, Option, IfOk, sym, refl, ap, ◌∙◌, subst, ap₂}
+use Rattle.std.proofs.Common.{◌≡◌, ℕ, Bool, ◌&&◌, ◌==◌, List, vec_len, Ok, Result, None, IfOk, ap, ◌∙◌, subst, ap₂}
 use Rattle.train_end.specs.declared.end.TrainEnd.{Ghosts as EndMeaning}
 use Rattle.train_end.specs.Bus.{bus_reading}
 use Rattle.train_end.specs.Pulse.{pulse_reading}
-use Rattle.bench.specs.Both.{Laws, TwoRuns}
+use Rattle.bench.specs.Both.{Laws}
 use Rattle.call_list.specs.declared.listed.Listed.{Listed}
 use Rattle.plan.specs.Calls.{calls_for, planned}
 use Rattle.plan.specs.Rows.{rows_for}

@@ -2,11 +2,10 @@
 use Rattle.std.specs.Prelude.{◌≡◌, ℕ, Bool, false, cond, ◌&&◌, List, map, vec_items, Ok, Err, Option, Result, Decides, ◌==◌}
 use Rattle.bench.specs.Both.{TwoRuns}
 use Rattle.compare.specs.Marks.{is_inside}
-use Rattle.compare.specs.Verdicts.{SpeedsEqual, VerdictOf}
+use Rattle.compare.specs.Verdicts.{VerdictOf}
 use Rattle.compare.specs.declared.marks.Mark.{Mark}
 use Rattle.plan.specs.Notes.{note_trace}
 use Rattle.plan.specs.declared.rows.Row.{Row}
-use Rattle.plan.specs.declared.rows.Told.{Told}
 use Rattle.side_by_side.specs.declared.finding.Finding.{Finding}
 use Rattle.side_by_side.specs.declared.status.Status.{Status}
 use Rattle.side_by_side.specs.declared.status.Status.TheVariants.{Agree, Differ, Trouble}

@@ -1,4 +1,4 @@
-use Rattle.std.proofs.Common.{◌≡◌, ℕ, List, Option, length, map, ap, ◌∙◌, ap₂}
+use Rattle.std.proofs.Common.{ℕ, List, Option, length, map, ap, ◌∙◌, ap₂}
 use Rattle.cab_unit.specs.Events.{said}
 use Rattle.cab_unit.specs.declared.call.Call.{Call}
 use Rattle.driver_desk.specs.declared.answer.Answer.{Answer}

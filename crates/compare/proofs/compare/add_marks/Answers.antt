@@ -1,4 +1,4 @@
-use Rattle.std.proofs.Common.{◌∷◌, ◌++◌, [], Bool, List, sym, ap, ◌∙◌, vec_items, vec_len, refl}
+use Rattle.std.proofs.Common.{◌∷◌, ◌++◌, [], Bool, List, sym, ap, ◌∙◌, vec_items, vec_len}
 use Rattle.compare.specs.Marks.{marks_of}
 use Rattle.compare.specs.declared.marks.Mark.{Mark}
 use Rattle.compare.specs.declared.marks.Mark.TheVariants.{Last}

@@ -1,4 +1,4 @@
-use Rattle.std.proofs.Common.{◌≡◌, ◌+◌, ◌<◌, ◌&&◌, ◌++◌, Bool, List, length, replicate, vec_items, vec_len, rules, sym, ap, ◌∙◌, subst₂, arith}
+use Rattle.std.proofs.Common.{◌≡◌, ◌+◌, ◌<◌, ◌&&◌, ◌++◌, Bool, List, length, vec_items, rules, sym, ap, ◌∙◌, subst₂, arith}
 use Rattle.std.proofs.lemmas.List.{length-map}
 use Rattle.compare.specs.Asked.{asked}
 use Rattle.compare.specs.Marks.{marks_of}

@@ -3,7 +3,7 @@ use Rattle.std.proofs.lemmas.List.{length-map}
 use Rattle.messages.specs.Shown.{dark, messages_of}
 use Rattle.messages.specs.Texts.{words}
 use Rattle.messages.proofs.Runs.{length-messages_from}
-use Rattle.compare.specs.Verdicts.{TalliesOf, Found, lists_of}
+use Rattle.compare.specs.Verdicts.{TalliesOf, lists_of}
 use Rattle.compare.specs.declared.marks.Mark.{Mark}
 use Rattle.compare.proofs.Judging.{compared_length, found_decided}
 use Rattle.compare.proofs.verdict.compare_runs.Goals as goal

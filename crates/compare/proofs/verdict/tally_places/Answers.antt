@@ -1,4 +1,4 @@
-use Rattle.std.proofs.Common.{◌≡◌, ◌+◌, ◌<◌, ◌≤◌, Bool, List, map, length, min, sym, subst, ◌∙◌, ap, arith, take, take_all, subst₂}
+use Rattle.std.proofs.Common.{◌≡◌, ◌+◌, Bool, List, map, length, sym, subst, arith, take, take_all, subst₂}
 use Rattle.std.proofs.lemmas.List.{length-map}
 use Rattle.cab_unit.specs.Events.{said}
 use Rattle.messages.specs.Texts.{words}
