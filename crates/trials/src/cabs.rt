@@ -14,10 +14,11 @@ pub struct Done<E> {
     pub speeds: Vec<Option<u16>>,
 }
 
-pub fn switch_off<E: TrainEnd>(ran: Ran<E>) -> Done<E> {
+pub fn switch_off<E: TrainEnd>(ran: Ran<'_, '_, E>) -> Done<E> {
     let Ran {
         unit,
         on,
+        calls: _,
         answers,
         speeds,
     } = ran;
@@ -29,7 +30,7 @@ pub fn switch_off<E: TrainEnd>(ran: Ran<E>) -> Done<E> {
     }
 }
 
-pub fn put_away<E: TrainEnd + Drop>(cab: Ready<'_, E>) -> E {
+pub fn put_away<E: TrainEnd + Drop>(cab: Ready<'_, '_, E>) -> E {
     let Ready {
         end,
         calls: _,
@@ -46,7 +47,7 @@ pub fn both_ready<'a, E: TrainEnd + Drop, F: TrainEnd + Drop>(
     calls: &'a [Call<'a>],
     other: F,
     other_calls: &'a [Call<'a>],
-) -> Result<(Ready<'a, E>, Ready<'a, F>), Fail> {
+) -> Result<(Ready<'a, 'a, E>, Ready<'a, 'a, F>), Fail> {
     match (
         Ready::new(heap, one, calls),
         Ready::new(heap, other, other_calls),
