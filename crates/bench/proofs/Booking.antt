@@ -1,5 +1,5 @@
 -- What an accepted call does to the waiting requests goes by the book's rules.
-use Rattle.std.proofs.Common.{◌≡◌, ℕ, ◌+◌, ◌-◌, ◌<◌, Bool, true, false, cond, not, ◌&&◌, ◌||◌, eqb, ltb, leb, List, [], ◌∷◌, length, Some, None, filter, Option, sym, refl, subst, inl, inr, arith}
+use Rattle.std.proofs.Common.{◌≡◌, ℕ, ◌+◌, ◌<◌, Bool, true, false, cond, not, ◌&&◌, ◌||◌, eqb, ltb, List, [], ◌∷◌, length, Some, None, filter, Option, sym, refl, subst, inl, inr, arith}
 use Rattle.std.proofs.lemmas.Bool.{cases_Bool, cond_both}
 use Rattle.std.proofs.lemmas.Bool.Decides.{nat_tests}
 use Rattle.telegram.specs.Format.{OrderValue, OrderValue.authority, OrderValue.level, OrderValue.text, OrderValue.withdrawal, OrderValue.stop, OrderValue.sign, OrderValue.permission}
@@ -7,7 +7,9 @@ use Rattle.telegram.specs.Modes.{mode_code}
 use Rattle.telegram.specs.declared.modes.Mode.{Mode}
 use Rattle.telegram.specs.declared.modes.Mode.TheVariants.{Standby, StaffResponsible, FullSupervision, OnSight, LimitedSupervision, Shunting, Unfitted, Trip, PostTrip, SystemFailure}
 use Rattle.train_end.specs.declared.brake_line.BrakeLine.{BrakeLine}
-use Rattle.cab_unit.specs.Buttons.{is_button, supervised, startable}
+use Rattle.cab_unit.specs.Buttons.{button_numbered, supervised, startable}
+use Rattle.cab_unit.specs.declared.button.Button.{Button}
+use Rattle.cab_unit.specs.declared.button.Button.TheVariants as button
 use Rattle.cab_unit.specs.Cycles.{given, counted, lapsed, watched, cycle_change}
 use Rattle.cab_unit.specs.Events.{Event, Event.cycle, Event.order, Event.press, Event.take}
 use Rattle.cab_unit.specs.Facts.{Apart}
@@ -15,7 +17,7 @@ use Rattle.cab_unit.specs.Heard.{is_listed}
 use Rattle.cab_unit.specs.Moves.{with_authority, with_pending, on_desk, entered, withdrawn_at, failing, Change, change, raising}
 use Rattle.driver_desk.specs.Numbers.{is_mode, is_level, level_number, level_of}
 use Rattle.cab_unit.specs.Orders.{authorized, unauthorized, authority_change, levelled, level_change, text_change, order_change}
-use Rattle.cab_unit.specs.Presses.{enters_by, entered_if, withdrawn_if, acknowledge_change, start_change, close_change, press_change}
+use Rattle.cab_unit.specs.Presses.{enters_by, entered_if, withdrawn_if, acknowledge_change, start_change, close_change, press_change, pressed}
 use Rattle.cab_unit.specs.Refusing.{failed, refusal, order_refusal}
 use Rattle.driver_desk.specs.Requests.{of_class, not_of_class, is_for, waits, number_of, rest_of}
 use Rattle.driver_desk.specs.Sorting.{tally}
@@ -252,27 +254,31 @@ button_before : (n k : ℕ) → k < 9 → eqb n k ≡ true → eqb n 9 ≡ false
 button_before n k b h = grind (arith, nat_tests)
 
 -- every button
-good-press : (n : ℕ) (s : State) → Apart s.waiting → is_button n ≡ true → Good (press n) s (press_change n s)
+good-press : (n : ℕ) (s : State) → Apart s.waiting → Good (press n) s (pressed (button_numbered n) s)
 unfolding press_change
-good-press n s a range =
+good-press n s a =
     let e = press n in
     let l = s.desk.level in
-    let nameless : (k : ℕ) → k < 9 → eqb n k ≡ true → Nameless e l l = λ k b f. press_nameless n l l (button_before n k b f) in
-    cond_both (eqb n 1) _ _ (Good e s) (λ f. good-first e s.desk s.train s.cycle s.waiting s.speed s.line a (nameless 1 (omega arith) f))
-    (λ _. cond_both (eqb n 2) _ _ (Good e s) (λ f. good_start e s (nameless 2 (omega arith) f))
-    (λ _. cond_both (eqb n 3) _ _ (Good e s) (λ f. good-change e s _ _ (parted-entered e s Shunting refl (nameless 3 (omega arith) f)))
-    (λ _. cond_both (eqb n 4) _ _ (Good e s) (λ f. good-change e s _ _ (parted-entered e s Standby refl (nameless 4 (omega arith) f)))
-    (λ _. cond_both (eqb n 5) _ _ (Good e s)
-    (λ f. good-change e s (on_desk (with_authority false) (entered StaffResponsible s)) _ (parted-entered e s StaffResponsible refl (nameless 5 (omega arith) f)))
-    (λ _. cond_both (leb n 8) _ _ (Good e s)
-    (λ f. let k : eqb n 9 ≡ false = grind (arith, nat_tests) in good-change e s _ 0 (parted_stay e s (level_of (n - 6)) (press_nameless n l (level_of (n - 6)) k)))
-    (λ f. let k : eqb n 9 ≡ true = grind (arith, nat_tests) in good_close n s k))))))
+    let nameless : (l' : Level) (k : ℕ) → k < 9 → eqb n k ≡ true → Nameless e l l' = λ l' k b f. press_nameless n l l' (button_before n k b f) in
+    let P : Option Button → Type 0 = λ o. Good e s (pressed o s) in
+    let set : (l' : Level) (k : ℕ) → k < 9 → eqb n k ≡ true → P (Some (button.Level l')) = λ l' k b f. good-change e s _ 0 (parted_stay e s l' (nameless l' k b f)) in
+    cond_both (eqb n 1) _ _ P (λ f. good-first e s.desk s.train s.cycle s.waiting s.speed s.line a (nameless l 1 (omega arith) f))
+    (λ _. cond_both (eqb n 2) _ _ P (λ f. good_start e s (nameless l 2 (omega arith) f))
+    (λ _. cond_both (eqb n 3) _ _ P (λ f. good-change e s _ _ (parted-entered e s Shunting refl (nameless l 3 (omega arith) f)))
+    (λ _. cond_both (eqb n 4) _ _ P (λ f. good-change e s _ _ (parted-entered e s Standby refl (nameless l 4 (omega arith) f)))
+    (λ _. cond_both (eqb n 5) _ _ P
+    (λ f. good-change e s (on_desk (with_authority false) (entered StaffResponsible s)) _ (parted-entered e s StaffResponsible refl (nameless l 5 (omega arith) f)))
+    (λ _. cond_both (eqb n 6) _ _ P (set Zero 6 (omega arith))
+    (λ _. cond_both (eqb n 7) _ _ P (set One 7 (omega arith))
+    (λ _. cond_both (eqb n 8) _ _ P (set Two 8 (omega arith))
+    (λ _. cond_both (eqb n 9) _ _ P (good_close n s)
+    (λ k. good-change e s _ 0 (parted_stay e s l (press_nameless n l l k)))))))))))
 
 -- every call that is accepted
 pub good : (reads : List ℕ → Option ℕ) (e : Event) (s : State) → Apart s.waiting → refusal e s ≡ None → Good e s (changed reads e s)
 good reads (cycle block) s a h = good-cycle reads block s (cond-none (failed s) _ _ h).0
 good reads (order o) s a h = good-order o s a (cond-none (failed s) _ _ h).1
-good reads (press n) s a h = good-press n s a (needing-none (is_button n) _ _ (cond-none (failed s) _ _ h).1).0
+good reads (press n) s a h = good-press n s a
 good reads (take t) s a h = good-change (take t) s _ 0 (parted-same (take t) s (λ r. refl))
 
 -- a text that an accepted order withdraws by name waits

@@ -1,4 +1,4 @@
--- The laws refuse what only pretends. Assumes nothing.
+-- The laws refuse what only pretends.
 use Rattle.std.proofs.Common.{◌≡◌, ℕ, ◌+◌, ◌≤◌, List, [], ◌∷◌, length, Some, None, Option, sym, refl, ap, arith}
 use Rattle.std.proofs.lemmas.Bool.{true≢false}
 use Rattle.telegram.specs.Modes.{mode_code}

@@ -1,5 +1,5 @@
 -- The speed after each call, and what calls do on two ends.
-use Rattle.std.proofs.Common.{◌≡◌, ℕ, Bool, true, false, cond, not, ◌&&◌, eqb, ltb, leb, List, length, Some, None, Option, sym, refl, ap, ◌∙◌}
+use Rattle.std.proofs.Common.{◌≡◌, ℕ, Bool, true, false, cond, not, ◌&&◌, ltb, List, length, Some, None, Option, sym, refl, ap, ◌∙◌}
 use Rattle.std.proofs.lemmas.Bool.{cond_both, true≢false}
 use Rattle.telegram.specs.Format.{OrderValue, OrderValue.authority, OrderValue.level, OrderValue.text, OrderValue.withdrawal, OrderValue.stop, OrderValue.sign, OrderValue.permission}
 use Rattle.telegram.specs.declared.modes.Mode.{Mode}
@@ -11,7 +11,10 @@ use Rattle.cab_unit.specs.Line.{settled}
 use Rattle.cab_unit.specs.Moves.{on_waiting, failing, Change, change, quiet}
 use Rattle.driver_desk.specs.Numbers.{is_mode, is_level, level_of}
 use Rattle.cab_unit.specs.Orders.{authority_change, level_change, order_change}
-use Rattle.cab_unit.specs.Presses.{entered_by, entered_if, acknowledge_change, start_change, close_change, press_change}
+use Rattle.cab_unit.specs.Presses.{entered_by, entered_if, acknowledge_change, start_change, close_change, press_change, pressed}
+use Rattle.cab_unit.specs.Buttons.{button_numbered}
+use Rattle.cab_unit.specs.declared.button.Button.{Button}
+use Rattle.cab_unit.specs.declared.button.Button.TheVariants as button
 use Rattle.cab_unit.specs.Refusing.{refusal, failed}
 use Rattle.driver_desk.specs.Requests.{waits, first_of, rest_of}
 use Rattle.cab_unit.specs.State.{State, moving}
@@ -48,12 +51,16 @@ entered-speed None s = refl
 entered-speed (Some m) s = refl
 
 -- nor does a press
-press-speed : (n : ℕ) (s : State) → (press_change n s).state.speed ≡ s.speed
+press-speed : (o : Option Button) (s : State) → (pressed o s).state.speed ≡ s.speed
 unfolding acknowledge_change start_change close_change press_change
-press-speed n s =
-    either (eqb n 1) _ _ (entered-speed (entered_by (first_of s.waiting)) (on_waiting rest_of s))
-    (either (eqb n 2) _ _ (either (is_level s.desk.level Two) _ _ refl (either (is_level s.desk.level One) _ _ refl refl))
-    (either (eqb n 3) _ _ refl (either (eqb n 4) _ _ refl (either (eqb n 5) _ _ refl (either (leb n 8) _ _ refl refl)))))
+press-speed None s = refl
+press-speed (Some button.Acknowledge) s = entered-speed (entered_by (first_of s.waiting)) (on_waiting rest_of s)
+press-speed (Some button.Start) s = either (is_level s.desk.level Two) _ _ refl (either (is_level s.desk.level One) _ _ refl refl)
+press-speed (Some button.Shunting) s = refl
+press-speed (Some button.ExitShunting) s = refl
+press-speed (Some button.Override) s = refl
+press-speed (Some (button.Level l)) s = refl
+press-speed (Some button.CloseDesk) s = refl
 
 -- watching leaves the speed, and leaves the mode or enters Trip
 watched-leaves : (s : State) (P : Mode → Option ℕ → Type 0) → P s.desk.mode s.speed → P Trip s.speed → P (watched s).state.desk.mode (watched s).state.speed
@@ -91,7 +98,7 @@ cycle-told v s (Some r) f = refl
 pub told-speed : (reads : List ℕ → Option ℕ) (e : Event) (s : State) → speed_after reads e (reply reads e s) s.speed ≡ (next reads e s).speed
 told-speed reads (cycle block) s = cycle-told (reads block) s (refusal (cycle block) s) refl
 told-speed reads (order o) s = sym (kept_speed (refusal (order o) s) s (order_change o s) (order-speed o s))
-told-speed reads (press n) s = sym (kept_speed (refusal (press n) s) s (press_change n s) (press-speed n s))
+told-speed reads (press n) s = sym (kept_speed (refusal (press n) s) s (pressed (button_numbered n) s) (press-speed (button_numbered n) s))
 told-speed reads (take t) s = sym (kept_speed (refusal (take t) s) s (quiet (with_train t s)) refl)
 
 -- a change that has the speed v where a test passes, and is the same for all v where it fails, is told by its speed

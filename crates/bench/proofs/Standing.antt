@@ -1,15 +1,18 @@
 -- On Sight, Limited Supervision, Staff Responsible or Unfitted, standing over 50 cycles with the line released, was confirmed exactly once.
-use Rattle.std.proofs.Common.{◌≡◌, ℕ, ◌+◌, ◌-◌, ◌<◌, ◌≤◌, Bool, true, false, cond, not, ◌&&◌, ◌||◌, eqb, ltb, leb, List, [], ◌∷◌, length, Some, None, filter, Option, sym, refl, ap, ◌∙◌, subst, inl, inr, arith}
+use Rattle.std.proofs.Common.{◌≡◌, ℕ, ◌+◌, Bool, true, false, cond, not, ◌&&◌, ◌||◌, eqb, ltb, List, [], ◌∷◌, length, Some, None, filter, Option, sym, refl, ap, ◌∙◌, inl, inr, arith}
 use Rattle.std.specs.List.{AllByRecursion}
-use Rattle.std.proofs.lemmas.Bool.{cases_Bool, cond_both, eqb-true, both_ways}
+use Rattle.std.proofs.lemmas.Bool.{cases_Bool, cond_both, both_ways}
 use Rattle.std.proofs.lemmas.Bool.Decides.{nat_tests}
+use Rattle.std.proofs.lemmas.Option.{none-some}
 use Rattle.telegram.specs.Format.{OrderValue, OrderValue.authority, OrderValue.level, OrderValue.text, OrderValue.withdrawal, OrderValue.stop, OrderValue.sign, OrderValue.permission}
 use Rattle.telegram.specs.Modes.{mode_code}
 use Rattle.telegram.specs.declared.modes.Mode.{Mode}
 use Rattle.telegram.specs.declared.modes.Mode.TheVariants.{Standby, StaffResponsible, FullSupervision, Shunting, Unfitted, Trip, PostTrip, SystemFailure}
 use Rattle.train_end.specs.declared.brake_line.BrakeLine.{BrakeLine}
 use Rattle.train_end.specs.declared.brake_line.BrakeLine.TheVariants.{Released, Service, Emergency}
-use Rattle.cab_unit.specs.Buttons.{supervised, startable, settable, is_button, enabled}
+use Rattle.cab_unit.specs.Buttons.{supervised, startable, settable, button_numbered, enabled}
+use Rattle.cab_unit.specs.declared.button.Button.{Button}
+use Rattle.cab_unit.specs.declared.button.Button.TheVariants as button
 use Rattle.cab_unit.specs.Cycles.{given, counted, lapsed, watched, cycle_change}
 use Rattle.cab_unit.specs.Events.{Event, Event.cycle, Event.order, Event.press, Event.take}
 use Rattle.cab_unit.specs.Facts.{Facts, LevelFits, fitting}
@@ -17,14 +20,14 @@ use Rattle.cab_unit.specs.Line.{line_rule, settled}
 use Rattle.cab_unit.specs.Moves.{change, quiet, raising, request, entered, withdrawn_at, failing, on_desk, on_waiting, with_authority, with_pending, with_silence, with_level}
 use Rattle.driver_desk.specs.Numbers.{is_mode, is_level, level_number, level_of}
 use Rattle.cab_unit.specs.Orders.{authorized, authority_change, levelled, unauthorized, level_change, order_change}
-use Rattle.cab_unit.specs.Presses.{entered_if, withdrawn_if, acknowledge_change, start_change, close_change, press_change}
-use Rattle.driver_desk.specs.Needing.{needing}
-use Rattle.cab_unit.specs.Refusing.{refusal, call_refusal, order_refusal}
+use Rattle.cab_unit.specs.Presses.{entered_if, withdrawn_if, acknowledge_change, start_change, close_change, press_change, pressed}
+use Rattle.cab_unit.specs.Refusing.{refusal, call_refusal, order_refusal, press_refusal}
 use Rattle.driver_desk.specs.Requests.{of_class, not_of_class, is_for, waits, overdue, any_overdue}
 use Rattle.cab_unit.specs.State.{State, moving}
 use Rattle.cab_unit.specs.Steps.{changed, state_at, answer_at, next, reply, switched_on, with_train}
 use Rattle.driver_desk.specs.declared.answer.Answer.{Answer}
 use Rattle.cab_unit.specs.declared.desk.Desk.{Desk}
+use Rattle.driver_desk.specs.declared.level.Level.{Level}
 use Rattle.driver_desk.specs.declared.level.Level.TheVariants.{Zero, One, Two}
 use Rattle.driver_desk.specs.declared.refusal.Refusal.{Refusal}
 use Rattle.driver_desk.specs.declared.refusal.Refusal.TheVariants.{NoSuchButton, ButtonNotEnabled, NotHeard}
@@ -141,19 +144,19 @@ module _ (n : ℕ) (first : eqb n 1 ≡ true) (d : Desk) (held : Option TrainRec
       (λ _. keeps-ending r l))
 
 -- Start is enabled only in a mode that wants no confirmation
-start_unconfirmed : (s : State) → enabled 2 s ≡ true → confirmable s.desk.mode ≡ false
+start_unconfirmed : (s : State) → enabled button.Start s ≡ true → confirmable s.desk.mode ≡ false
 unfolding enabled
 start_unconfirmed s h = let k : startable s.desk.mode ≡ true = grind (arith, nat_tests) in startable_unconfirmed s.desk.mode k
 
 -- Override is not enabled in Staff Responsible
-override_enters : (s : State) → enabled 5 s ≡ true → is_mode s.desk.mode StaffResponsible ≡ false
+override_enters : (s : State) → enabled button.Override s ≡ true → is_mode s.desk.mode StaffResponsible ≡ false
 unfolding enabled
 override_enters s h = grind (arith, nat_tests)
 
 -- a Level button is enabled only in a mode that wants no confirmation
-level_unconfirmed : (n : ℕ) (s : State) → 5 < n → n ≤ 8 → enabled n s ≡ true → confirmable s.desk.mode ≡ false
+level_unconfirmed : (l : Level) (s : State) → enabled (button.Level l) s ≡ true → confirmable s.desk.mode ≡ false
 unfolding enabled
-level_unconfirmed n s low high h = let k : settable s ≡ true = grind (arith, nat_tests) in grind (arith, nat_tests)
+level_unconfirmed l s h = let k : settable s ≡ true = h in grind (arith, nat_tests)
 
 -- Start leaves the mode
 keeps_start : (e : Event) (s : State) → confirmable s.desk.mode ≡ false → Keeps e s (start_change s)
@@ -165,40 +168,42 @@ keeps_start e s f =
     (λ _. leaves e s (raising class.Mode 1 false s 0) f)
     (λ _. leaves e s (raising class.Mode 6 false s 0) f))
 
--- an enabled button
-keeps-press : (n : ℕ) (s : State) → Facts s → is_button n ≡ true → enabled n s ≡ true → Keeps (press n) s (press_change n s)
+-- a press that is not refused
+keeps-press : (n : ℕ) (s : State) → Facts s → press_refusal (button_numbered n) s ≡ None → Keeps (press n) s (pressed (button_numbered n) s)
 unfolding press_change close_change
-keeps-press n s facts b h =
+keeps-press n s facts =
     let e = press n in
-    let at : (k : ℕ) → eqb n k ≡ true → enabled k s ≡ true = λ k f. subst (λ (x : ℕ). enabled x s ≡ true) (eqb-true n k f) h in
-    cond_both (eqb n 1) _ _ (Keeps e s)
-    (λ f1. keeps-first n f1 s.desk s.train s.cycle s.speed s.line s.waiting facts.3)
-    (λ f1. cond_both (eqb n 2) _ _ (Keeps e s)
-    (λ f2. keeps_start e s (start_unconfirmed s (at 2 f2)))
-    (λ f2. cond_both (eqb n 3) _ _ (Keeps e s)
-    (λ f3. leaves e s (change (entered Shunting s) None None (withdrawn_at Shunting s)) refl)
-    (λ f3. cond_both (eqb n 4) _ _ (Keeps e s)
-    (λ f4. leaves e s (change (entered Standby s) None None (withdrawn_at Standby s)) refl)
-    (λ f4. cond_both (eqb n 5) _ _ (Keeps e s)
-    (λ f5.
-    let m = override_enters s (at 5 f5) in
+    let P : Option Button → Type 0 = λ o. press_refusal o s ≡ None → Keeps e s (pressed o s) in
+    let on : (b : Button) → press_refusal (Some b) s ≡ None → enabled b s ≡ true = λ b h. (needing-none (enabled b s) ButtonNotEnabled None h).0 in
+    let set : (l : Level) → P (Some (button.Level l)) = λ l h. leaves e s (quiet (on_desk (with_level l) s)) (level_unconfirmed l s (on (button.Level l) h)) in
+    cond_both (eqb n 1) _ _ P
+    (λ f1 h. keeps-first n f1 s.desk s.train s.cycle s.speed s.line s.waiting facts.3)
+    (λ _. cond_both (eqb n 2) _ _ P
+    (λ _ h. keeps_start e s (start_unconfirmed s (on button.Start h)))
+    (λ _. cond_both (eqb n 3) _ _ P
+    (λ _ h. leaves e s (change (entered Shunting s) None None (withdrawn_at Shunting s)) refl)
+    (λ _. cond_both (eqb n 4) _ _ P
+    (λ _ h. leaves e s (change (entered Standby s) None None (withdrawn_at Standby s)) refl)
+    (λ _. cond_both (eqb n 5) _ _ P
+    (λ f5 h.
+    let m = override_enters s (on button.Override h) in
     enters-confirmed e s (on_desk (with_authority false) (entered StaffResponsible s)) None _ m (entered-none StaffResponsible s m) (grind (arith, nat_tests)))
-    (λ f5. cond_both (leb n 8) _ _ (Keeps e s)
-    (λ f8. leaves e s (quiet (on_desk (with_level (level_of (n - 6))) s)) (level_unconfirmed n s (grind (arith, nat_tests)) (grind (arith, nat_tests)) h))
-    (λ f8. leaves e s _ refl))))))
+    (λ _. cond_both (eqb n 6) _ _ P (λ _. set Zero)
+    (λ _. cond_both (eqb n 7) _ _ P (λ _. set One)
+    (λ _. cond_both (eqb n 8) _ _ P (λ _. set Two)
+    (λ _. cond_both (eqb n 9) _ _ P (λ _ h. leaves e s _ refl)
+    (λ _ h. absurd (none-some NoSuchButton (sym h)))))))))))
 
 -- every call that is not refused
 keeps : (reads : List ℕ → Option ℕ) (e : Event) (s : State) → Facts s → call_refusal e s ≡ None → Keeps e s (changed reads e s)
 keeps reads (cycle block) s facts h = keeps-cycle (reads block) block s
 keeps reads (order o) s facts h = keeps-order o s facts h
-keeps reads (press n) s facts h =
-    let b = needing-none (is_button n) NoSuchButton (needing (enabled n s) ButtonNotEnabled None) h in
-    keeps-press n s facts b.0 (needing-none (enabled n s) ButtonNotEnabled None b.1).0
+keeps reads (press n) s facts h = keeps-press n s facts h
 keeps reads (take t) s facts h = stays (take t) s (quiet (with_train t s)) refl (omega arith) refl refl
 
 -- the line is as the line rule has it
 abbrev pub Ruled : State → Type 0
-Ruled s = s.line ≡ line_rule s.desk (any_overdue s.cycle s.waiting) (waits class.Hold 0 s.waiting) s.speed
+Ruled s = s.line ≡ line_rule s
 
 -- what holds of an entry and a state all along a run
 abbrev pub Holds : Entry → State → Type 0
@@ -219,17 +224,19 @@ holds_at reads e s t None h facts k =
 holds_at reads e s t (Some r) h facts k = k
 
 -- while the line is released nothing is overdue
-none_late : (d : Desk) (late hold : Bool) (speed : Option ℕ) → line_rule d late hold speed ≡ Released → late ≡ false
-none_late d false hold speed h = refl
-none_late d true hold speed h = elim (cases_Bool (is_mode d.mode Trip || is_mode d.mode SystemFailure)) [
-  | inl e ↦ let z : Emergency ≡ Released = simp e at h in cc
-  | inr e ↦ let z : Service ≡ Released = simp e at h in cc
+none_late : (s : State) → line_rule s ≡ Released → any_overdue s.cycle s.waiting ≡ false
+none_late s h = elim (cases_Bool (any_overdue s.cycle s.waiting)) [
+  | inl late ↦ elim (cases_Bool (is_mode s.desk.mode Trip || is_mode s.desk.mode SystemFailure)) [
+    | inl e ↦ let z : Emergency ≡ Released = simp e at h in cc
+    | inr e ↦ let z : Service ≡ Released = simp (e, late) at h in cc
+  ]
+  | inr e ↦ e
 ]
 
 -- what holds along a run gives the law at its end
 holds_confirmed : (t : Entry) (s : State) → Holds t s → Confirmed t s
 holds_confirmed t s k o long line =
-    let late = none_late s.desk (any_overdue s.cycle s.waiting) (waits class.Hold 0 s.waiting) s.speed (sym k.2 ∙ line) in
+    let late = none_late s (sym k.2 ∙ line) in
     awaits_none_late t s.cycle (modes_in s.waiting) (k.1 (ap confirmable (sym k.0) ∙ o)) long
     (none_kept (of_class class.Mode) (overdue s.cycle) s.waiting late)
 

@@ -1,4 +1,5 @@
--- The book: fed, in order, each call with the answer that came, and nothing else.
+-- The book: an account of the requests, kept from outside. All that it hears of a unit is the calls
+-- that were made and what came as an answer, one after another.
 use Rattle.std.specs.Prelude.{◌≡◌, ℕ, ◌+◌, Bool, true, false, cond, not, ◌&&◌, ◌||◌, List, [], ◌∷◌, length, Some, None, filter, Option, ◌==◌}
 use Rattle.telegram.specs.Format.{OrderValue, OrderValue.authority, OrderValue.level, OrderValue.text, OrderValue.withdrawal, OrderValue.stop, OrderValue.sign, OrderValue.permission}
 use Rattle.telegram.specs.declared.modes.Mode.{Mode}
@@ -45,7 +46,7 @@ names (order o) level_changes r = order_names o level_changes r
 names (press n) level_changes r = n == 9 && (of_class class.Mode r || of_class class.Level r || of_class class.Text r)
 names (take t) level_changes r = false
 
--- what an accepted call withdraws of what is open: all if System Failure is entered, class mode if another mode is, and what it names
+-- what goes of the open requests without the driver's yes: the unit failed, the mode went, or the call says which
 abbrev pub withdraws : Event → Mode → Mode → Level → Level → Request → Bool
 withdraws e m m' l l' r = (not (is_mode m m') && (is_mode m' SystemFailure || of_class class.Mode r)) || names e (not (is_level l l')) r
 
@@ -65,7 +66,7 @@ once (Some r) c n = cond (is_for c n r) 1 0
 abbrev pub withdrawn_by : Event → Answer → Book → List Request
 withdrawn_by e a b = filter (withdraws e b.mode a.mode b.level a.level) (closed a.acknowledged b.opened)
 
--- an accepted call: the acknowledged is closed, then what is withdrawn, then the raised is opened
+-- in this order, so that no request is struck out by the call that raised it
 abbrev pub entry : Event → Answer → Book → Book
 entry e a b = record {
   mode = a.mode;
@@ -76,7 +77,7 @@ entry e a b = record {
   withdrawals = λ c n. b.withdrawals c n + tally (is_for c n) (withdrawn_by e a b);
 }
 
--- a refused call leaves the book
+-- what was refused has not happened
 abbrev pub booked_at : Option Refusal → Event → Answer → Book → Book
 booked_at None e a b = entry e a b
 booked_at (Some r) e a b = b

@@ -56,10 +56,18 @@ silent k = still ∷ press 8 ∷ record' ∷ press 2 ∷ order (authority FullSu
 abbrev pub supervised : List Event
 supervised = started ++ (order (authority FullSupervision) ∷ [])
 
--- On an end with speed unknown: Standby, line 1, no buttons; then block 80 00: line 0, buttons 484. Level 1, record, Start,
--- Acknowledge: Staff Responsible. On Sight entered in cycle 100: line 0 in 150, 1 in 151, 0 after Acknowledge. Texts 9 then 4 in one
--- cycle: 4 is first. Withdrawing an overdue text: 34. Silence 400: line 0; 401 while moving: 1. Override at 20 is accepted, at 21 gives 2.
--- A trip acknowledged while moving: 2. Then the edges of the train ends and of telegrams.
+-- Switching on with no known speed shows Standby, brakes to service and enables nothing. A block of
+-- 80 00 then eases the brake and enables the buttons 484.
+-- The driver sets level 1, confirms a record, presses Start and acknowledges, and stands in Staff
+-- Responsible.
+-- A running train comes into On Sight in cycle 100, at level 1, and the driver does nothing. The
+-- brake stays off in cycle 150 and comes on in 151; Acknowledge eases it.
+-- Of text 9 and text 4, which come in this order without a cycle between them, text 4 waits first.
+-- The withdrawal of a text that is overdue is refused with 34.
+-- After 400 silent cycles the brake of a moving train is off; after one more it is at service.
+-- Override may be pressed at 20 km/h; a press at 21 km/h is refused with 2.
+-- Nor can a driver acknowledge a trip before the train stands: refused with 2.
+-- The train ends and the telegrams have worked edges of their own, which stand last.
 abbrev pub Edges : Type 0
 Edges =
     ((answer_on None).mode ≡ Standby) × ((switched_on None).line ≡ Service) × ((answer_on None).buttons ≡ 0)

@@ -27,25 +27,25 @@ cycles_of (order o) = 0
 cycles_of (press n) = 0
 cycles_of (take t) = 0
 
--- an Override is for the entry that it makes
+-- Override confirms the mode that it brings in
 abbrev pub overrides : Event → ℕ
 overrides (cycle block) = 0
 overrides (order o) = 0
 overrides (press n) = cond (n == 5) 1 0
 overrides (take t) = 0
 
--- an acknowledgement is for an entry if it makes that entry
+-- so does an acknowledgement that brings a mode in
 abbrev pub acknowledges : Option Request → ℕ
 acknowledges None = 0
 acknowledges (Some r) = 1
 
--- or if it ends the request raised by it
+-- and one that ends the request with which the mode came in
 abbrev pub answers_for : Option Request → Option Request → ℕ
 answers_for None asked = 0
 answers_for (Some r) None = 0
 answers_for (Some r) (Some q) = cond (identical r q) 1 0
 
--- an entry is a call that changes the mode
+-- a call makes an entry where another mode stands after it than before
 abbrev pub entering : Bool → Event → Answer → Entry → Entry
 entering true e a t = record { mode = a.mode; stood = t.stood + cycles_of e; asked = t.asked; confirmed = t.confirmed + answers_for a.acknowledged t.asked }
 entering false e a t = record { mode = a.mode; stood = 0; asked = a.raised; confirmed = acknowledges a.acknowledged + overrides e }

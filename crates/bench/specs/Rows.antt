@@ -1,4 +1,4 @@
--- Rows of the unit's tables with the numbers written out, each told by a list of calls on an unused unit.
+-- Rows of the unit's definitions with the numbers written out, each told by a list of calls on an unused unit.
 use Rattle.std.specs.Prelude.{◌≡◌, ℕ, false, List, [], ◌∷◌, ◌++◌, map, replicate, None}
 use Rattle.telegram.specs.Format.{OrderValue.authority, OrderValue.level, OrderValue.text, OrderValue.withdrawal, OrderValue.stop, OrderValue.sign, OrderValue.permission}
 use Rattle.telegram.specs.Modes.{mode_code}
@@ -76,7 +76,7 @@ ButtonRows = map shown_after reached ≡
 abbrev pub numbers : ℕ → ℕ → ℕ → ℕ → Event
 numbers d l p v = take (record { driver = d; length = l; percentage = p; speed = v })
 
--- 23 is told before 30, the draft's refusal before 14, and 31 before 32; a text that wants nothing meets neither 31 nor 32; a hold takes
+-- 23 is told before 30, the draft's refusal before 14, and 31 before 32; a text that is shown only is never refused; a hold takes
 -- no text's room; 33 and 34 ask for the text of that number alone
 abbrev pub FirstRefusals : Type 0
 FirstRefusals =

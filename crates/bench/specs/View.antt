@@ -1,19 +1,14 @@
--- What a unit means, and a cab before and after its run, by what its train end means.
+-- A cab before and after its run, by what its train end means.
 use Rattle.std.specs.Prelude.{◌≡◌, ◌==◌, Bool, ◌&&◌, map, length, vec_items, vec_len}
 use Rattle.train_end.specs.declared.end.TrainEnd.{Ghosts as EndMeaning}
 use Rattle.cab_unit.specs.Events.{said}
-use Rattle.cab_unit.specs.State.{State}
 use Rattle.cab_unit.specs.Steps.{answer_on}
-use Rattle.cab_unit.specs.View.{view as view_of}
-use Rattle.cab_unit.specs.declared.unit.Unit.{Unit as CabUnit}
+use Rattle.cab_unit.specs.Units.{state_of}
 use Rattle.driver_desk.specs.declared.answer.Answer.{Answer}
 use Rattle.bench.specs.Both.{TwoRuns}
 use Rattle.bench.specs.Runs.{Run}
 use Rattle.bench.specs.declared.runs.Ready.{Ready}
 use Rattle.bench.specs.declared.runs.Ran.{Ran}
-
-abbrev pub view : {E : Type 0} → EndMeaning E → CabUnit E → State
-view meaning u = view_of meaning u.cab
 
 -- there is a place for the answer to each call, and for the speed after it
 abbrev pub has_room : {E : Type 0} → Ready E → Bool
@@ -27,7 +22,7 @@ run_by meaning c ran = record {
   calls = map said ran.calls.now;
   answers = vec_items ran.answers;
   speeds = vec_items ran.speeds;
-  last = view meaning ran.unit;
+  last = state_of meaning ran.unit;
 }
 
 abbrev pub runs : {E F : Type 0} → EndMeaning E → EndMeaning F → Ready E → Ready F → Ran E × Ran F → TwoRuns

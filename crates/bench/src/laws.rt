@@ -3,7 +3,12 @@ ghost use Rattle.bench.specs.Laws.{BookLaw, EntryLaw, LikenessLaw, SpeedLaw};
 ghost use Rattle.bench.specs.Pretences.{NotByTheBook, NotConfirmedOnce, NotEqualEnds};
 ghost use Rattle.bench.specs.Readings.{RuledOut};
 
-// The laws over runs hold of the definitions, and so do the readings that are ruled out; and the laws refuse what only pretends.
+/// The laws over runs, proved of the unit's definitions. A call of it does nothing.
+///
+/// `book`, `entries`, `speeds` and `likeness`: the laws, of every list of calls on every end.
+/// `readings`: three readings of the rules that are ruled out. `texts`: what a text asks of the
+/// driver. `strays`, `unconfirmed` and `unequal`: accounts, confirmations and ends that the laws
+/// refuse.
 pub fn laws_stand()
     ensures book { BookLaw }
     ensures entries { EntryLaw }

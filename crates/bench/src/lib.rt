@@ -1,4 +1,6 @@
-// The bench: whole lists of calls on an unused unit, the book kept of them, and the laws over runs.
+//! The bench runs whole lists of calls in two cabs, each with a unit just switched on at its own
+//! end. Its definitions keep the book of requests from calls and answers alone, and its contracts
+//! say the laws over runs of every list, accepted and refused calls alike.
 #![tactic(auto)]
 
 mod edges;

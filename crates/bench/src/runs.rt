@@ -2,10 +2,11 @@ ghost use Rattle.std.specs.Prelude.{◌≡◌, ◌<◌, ◌&&◌, true, map, len
 ghost use Rattle.cab_unit.specs.Events.{said, Event.take as taken};
 ghost use Rattle.cab_unit.specs.Refusing.{failed};
 ghost use Rattle.driver_desk.specs.declared.refusal.Refusal.TheVariants.{InSystemFailure};
-ghost use Rattle.cab_unit.specs.Steps.{answer_on, answering, next, reply};
+ghost use Rattle.cab_unit.specs.Steps.{answer_on, answering};
+ghost use Rattle.cab_unit.specs.Units.{state_of, after_call, answer_to};
 ghost use Rattle.bench.specs.Both.{AsDefined, Laws};
 ghost use Rattle.bench.specs.Runs.{after, answers as answers_of, speeds as speeds_of};
-ghost use Rattle.bench.specs.View.{view, has_room, run_by, runs, ShownOn};
+ghost use Rattle.bench.specs.View.{has_room, run_by, runs, ShownOn};
 
 use cab_unit::{Call, Unit};
 use driver_desk::{Answer, Draft, Level, Refusal, TrainRecord};
@@ -13,28 +14,41 @@ use std::alloc::{AllocError, Global};
 use telegram::Mode;
 use train_end::{BrakeLine, TrainEnd};
 
-/// A cab before its run: its end, the calls that it is to get, and a place for the answer to each and for the speed after it.
+/// A cab before its run. It can be run where it has as many places for answers, and as many for
+/// speeds, as calls.
 #[derive(Drop)]
 pub struct Ready<'p, 'a, E> {
+    /// The train end at which the unit is to be switched on.
     pub end: E,
+    /// The calls that the unit is to get, in their order.
     pub calls: &'p [Call<'a>],
+    /// A place for the answer to each call. What stands there before the run says nothing.
     pub answers: Vec<Answer>,
+    /// A place for the speed after each call. What stands there before the run says nothing.
     pub speeds: Vec<Option<u16>>,
 }
 
-/// A cab after its run: its unit, what that showed when it was switched on, the calls, the answer to each, and the speed
-/// in km/h that the unit's own end had after it, none where that was unknown. The caller switches the unit off.
+/// A cab after its run. Its unit is still switched on; the caller switches it off.
 pub struct Ran<'p, 'a, E> {
+    /// The unit as the last call left it.
     pub unit: Unit<E>,
+    /// What the unit showed when it was switched on, before the first call.
     pub on: Answer,
+    /// The calls that were made, in their order.
     pub calls: &'p [Call<'a>],
+    /// The answer to each call, at the place that the call has, counted from 0.
     pub answers: Vec<Answer>,
+    /// The speed of the unit's own end after each call, in km/h, 0 to 600; none where it is
+    /// unknown.
     pub speeds: Vec<Option<u16>>,
 }
 
-// What a unit answers to numbers that no draft takes. In System Failure it says that before all else.
+// What a unit answers to numbers that no draft takes. In System Failure it says that before all
+// else.
 fn refuse_draft<E: TrainEnd>(unit: &Unit<E>, refusal: Refusal) -> Answer
-    ensures { result ≡ answering (Some (if failed (view E.TrainEnd unit.now) then InSystemFailure else refusal)) None None 0 (view E.TrainEnd unit.now) }
+    ensures { result ≡ answering
+        (Some (if failed (state_of E.TrainEnd unit.now) then InSystemFailure else refusal))
+        None None 0 (state_of E.TrainEnd unit.now) }
 {
     let mut answer = unit.answer();
     answer.outcome = Some(if answer.mode == Mode::SystemFailure {
@@ -47,8 +61,8 @@ fn refuse_draft<E: TrainEnd>(unit: &Unit<E>, refusal: Refusal) -> Answer
 
 // A draft of the numbers, Yes, and the taking.
 fn take_record<E: TrainEnd>(unit: &mut Unit<E>, train: TrainRecord) -> Answer
-    ensures state { view E.TrainEnd unit.new ≡ next E.reading (taken train) (view E.TrainEnd unit.old) }
-    ensures answer { result ≡ reply E.reading (taken train) (view E.TrainEnd unit.old) }
+    ensures state { state_of E.TrainEnd unit.new ≡ after_call E.TrainEnd (taken train) unit.old }
+    ensures answer { result ≡ answer_to E.TrainEnd (taken train) unit.old }
 {
     let draft = Draft::new(
         train.driver,
@@ -67,8 +81,8 @@ fn take_record<E: TrainEnd>(unit: &mut Unit<E>, train: TrainRecord) -> Answer
 
 // Makes one call of the unit.
 fn make_call<E: TrainEnd>(unit: &mut Unit<E>, call: &Call<'_>) -> Answer
-    ensures state { view E.TrainEnd unit.new ≡ next E.reading (said call.now) (view E.TrainEnd unit.old) }
-    ensures answer { result ≡ reply E.reading (said call.now) (view E.TrainEnd unit.old) }
+    ensures state { state_of E.TrainEnd unit.new ≡ after_call E.TrainEnd (said call.now) unit.old }
+    ensures answer { result ≡ answer_to E.TrainEnd (said call.now) unit.old }
 {
     match *call {
         Call::Cycle(block) => unit.cycle(block),
@@ -78,8 +92,8 @@ fn make_call<E: TrainEnd>(unit: &mut Unit<E>, call: &Call<'_>) -> Answer
     }
 }
 
-// Makes the calls in their order, and writes the answer to each, and the speed after it, at its place.
-// By the place's index: of what is written through `iter_mut` beside `zip` a proof knows nothing afterwards.
+// Makes the calls in their order, and writes the answer to each, and the speed after it, at its
+// place.
 fn run_into<E: TrainEnd>(
     unit: &mut Unit<E>,
     calls: &[Call<'_>],
@@ -88,9 +102,12 @@ fn run_into<E: TrainEnd>(
 )
     requires answers { length answers.old ≡ length calls.now }
     requires speeds { length speeds.old ≡ length calls.now }
-    ensures state { view E.TrainEnd unit.new ≡ after E.reading (map said calls.now) (view E.TrainEnd unit.old) }
-    ensures answers { answers.new ≡ answers_of E.reading (map said calls.now) (view E.TrainEnd unit.old) }
-    ensures speeds { speeds.new ≡ speeds_of E.reading (map said calls.now) (view E.TrainEnd unit.old) }
+    ensures state { state_of E.TrainEnd unit.new ≡
+        after E.reading (map said calls.now) (state_of E.TrainEnd unit.old) }
+    ensures answers { answers.new ≡
+        answers_of E.reading (map said calls.now) (state_of E.TrainEnd unit.old) }
+    ensures speeds { speeds.new ≡
+        speeds_of E.reading (map said calls.now) (state_of E.TrainEnd unit.old) }
 {
     for (i, call) in calls.iter().enumerate() {
         answers[i] = make_call(unit, call);
@@ -99,7 +116,10 @@ fn run_into<E: TrainEnd>(
 }
 
 impl<'p, 'a, E: TrainEnd> Ready<'p, 'a, E> {
-    /// A cab at this end with these calls, with the places that it wants. Where memory is wanting, the end comes back.
+    /// A cab at this end with these calls, and with a place for each answer and each speed.
+    ///
+    /// Want of memory is the only error. It gives the end back as it was, and comes only where
+    /// there is a call.
     pub fn new(heap: Global, end: E, calls: &'p [Call<'a>]) -> Result<Ready<'p, 'a, E>, E>
         ensures end { IfOk result (λ c. c.end ≡ end) }
         ensures calls { IfOk result (λ c. c.calls ≡ calls.entry) }
@@ -155,17 +175,24 @@ impl<'p, 'a, E: TrainEnd> Ready<'p, 'a, E> {
     }
 }
 
-/// Runs two cabs: switches a unit on at the end of each, and makes its calls. The places come back with the answers and speeds.
+/// Runs two cabs: switches a unit on at the end of each, and makes its calls in their order. The
+/// places come back with the answers and the speeds.
 ///
-/// Where a cab has not as many places as calls, nothing is run, and both come back as they were.
+/// A taking is made from its four numbers when its turn comes: draft, Yes, taking. Numbers that no
+/// draft takes are answered with the draft's refusal, 10 to 13, or with 40 in System Failure.
+///
+/// Where a cab has not as many places as calls, nothing is run: the error is both cabs as they
+/// were.
 pub fn run_lent<'p, 'a, 'q, 'b, E: TrainEnd, F: TrainEnd>(
     one: Ready<'p, 'a, E>,
     other: Ready<'q, 'b, F>,
 ) -> Result<(Ran<'p, 'a, E>, Ran<'q, 'b, F>), (Ready<'p, 'a, E>, Ready<'q, 'b, F>)>
     ensures fits { is_ok result ≡ (has_room one.entry && has_room other.entry) }
     ensures laws { IfOk result (λ r. Laws (runs E.TrainEnd F.TrainEnd one.entry other.entry r)) }
-    ensures on { IfOk result (λ r. ShownOn (runs E.TrainEnd F.TrainEnd one.entry other.entry r) r.0.on r.1.on) }
-    ensures calls { IfOk result (λ r. (r.0.calls ≡ one.entry.calls) × (r.1.calls ≡ other.entry.calls)) }
+    ensures on { IfOk result (λ r. ShownOn
+        (runs E.TrainEnd F.TrainEnd one.entry other.entry r) r.0.on r.1.on) }
+    ensures calls { IfOk result (λ r. (r.0.calls ≡ one.entry.calls) ×
+        (r.1.calls ≡ other.entry.calls)) }
     ensures back { IfErr result (λ back. (back.0 ≡ one.entry) × (back.1 ≡ other.entry)) }
 {
     if !one.has_room() || !other.has_room() {
@@ -174,8 +201,8 @@ pub fn run_lent<'p, 'a, 'q, 'b, E: TrainEnd, F: TrainEnd>(
     Ok((one.run(), other.run()))
 }
 
-// A place for each of n answers and speeds, none of them in memory where n is 0.
-// The blank is written out: no mode, level or line is one by default, and each place is written over.
+// A place for each of n answers and speeds, none of them in memory where n is 0. What stands in a
+// blank says nothing: a run writes over each.
 fn blank_places(heap: Global, n: usize) -> Result<(Vec<Answer>, Vec<Option<u16>>), AllocError>
     ensures places { IfOk result (λ v. (vec_len v.0 ≡ n) × (vec_len v.1 ≡ n)) }
     ensures memory { IfErr result (λ _. 0 < n) }

@@ -1,9 +1,7 @@
 -- Where none of a class waits, and where one does.
 use Rattle.std.proofs.Common.{◌≡◌, ℕ, ◌≤◌, Bool, true, false, cond, eqb, List, [], ◌∷◌, filter, sym, ap, ◌∙◌, inl, inr, arith}
 use Rattle.std.proofs.lemmas.Bool.{cases_Bool, cond_both, true≢false}
-use Rattle.std.proofs.lemmas.Bool.Decides.{nat_tests}
 use Rattle.telegram.specs.declared.modes.Mode.{Mode}
-use Rattle.cab_unit.specs.Buttons.{enabled}
 use Rattle.cab_unit.specs.Moves.{entered}
 use Rattle.driver_desk.specs.Numbers.{class_number, is_mode}
 use Rattle.cab_unit.specs.Places.{Single}
@@ -14,11 +12,6 @@ use Rattle.driver_desk.specs.declared.request.Class.{Class}
 use Rattle.driver_desk.specs.declared.request.Class.TheVariants as class
 use Rattle.driver_desk.specs.declared.request.Request.{Request}
 use Rattle.cab_unit.proofs.Queue.{number_other, number_withdrawn}
-
--- Start: no mode request waits
-pub start_unasked : (s : State) → enabled 2 s ≡ true → number_of class.Mode s.waiting ≡ 0
-unfolding enabled
-start_unasked s h = grind (arith, nat_tests)
 
 -- after a change of mode no mode request waits
 pub entered-unasked : (m : Mode) (s t : State) → t ≡ entered m s → is_mode s.desk.mode m ≡ false → number_of class.Mode t.waiting ≡ 0

@@ -1,14 +1,17 @@
--- The facts hold of every state that calls can reach. Assumes nothing.
-use Rattle.std.proofs.Common.{◌≡◌, ℕ, ◌+◌, ◌-◌, ◌<◌, ◌≤◌, Bool, true, false, cond, not, ◌&&◌, ◌||◌, eqb, ltb, leb, List, [], ◌∷◌, Some, None, filter, Option, sym, refl, ◌∙◌, subst, inl, inr, arith}
+-- The facts hold of every state that calls can reach.
+use Rattle.std.proofs.Common.{◌≡◌, ℕ, ◌+◌, ◌<◌, ◌≤◌, Bool, true, false, cond, not, ◌&&◌, ◌||◌, eqb, ltb, leb, List, [], ◌∷◌, Some, None, filter, Option, sym, refl, ◌∙◌, subst, inl, inr, arith}
 use Rattle.std.specs.List.{AllByRecursion}
 use Rattle.std.proofs.ByRecursion.{all_kept_by, All-weaker}
-use Rattle.std.proofs.lemmas.Bool.{cases_Bool, cond_both, cond-false, both_ways, and_parts, eqb-true, leb-false}
+use Rattle.std.proofs.lemmas.Bool.{cases_Bool, cond_both, cond-false, both_ways, and_parts, leb-false}
 use Rattle.std.proofs.lemmas.Bool.Decides.{nat_tests}
+use Rattle.std.proofs.lemmas.Option.{none-some as none_is_not_some}
 use Rattle.telegram.specs.Format.{OrderValue, OrderValue.authority, OrderValue.level, OrderValue.text, OrderValue.withdrawal, OrderValue.stop, OrderValue.sign, OrderValue.permission}
 use Rattle.telegram.specs.Modes.{mode_code}
 use Rattle.telegram.specs.declared.modes.Mode.{Mode}
 use Rattle.telegram.specs.declared.modes.Mode.TheVariants.{Standby, StaffResponsible, FullSupervision, Shunting, Unfitted, Trip, PostTrip}
-use Rattle.cab_unit.specs.Buttons.{supervised, startable, settable, is_button, enabled}
+use Rattle.cab_unit.specs.Buttons.{supervised, startable, settable, button_numbered, enabled}
+use Rattle.cab_unit.specs.declared.button.Button.{Button}
+use Rattle.cab_unit.specs.declared.button.Button.TheVariants as button
 use Rattle.cab_unit.specs.Cycles.{given, counted, lapsed, watched, cycle_change}
 use Rattle.cab_unit.specs.Events.{Event, Event.cycle, Event.order, Event.press, Event.take}
 use Rattle.cab_unit.specs.Facts.{TripsInTrip, StartsPend, zero_mode, LevelFits, fitting, Facts}
@@ -18,8 +21,8 @@ use Rattle.cab_unit.specs.Moves.{with_mode, with_level, with_authority, with_pen
 use Rattle.driver_desk.specs.Numbers.{class_number, level_number, level_of, is_mode, is_level}
 use Rattle.cab_unit.specs.Orders.{authorized, authority_change, levelled, level_change, text_change, order_change}
 use Rattle.cab_unit.specs.Places.{limit}
-use Rattle.cab_unit.specs.Presses.{entered_if, acknowledge_change, start_change, without_train, close_change, press_change}
-use Rattle.cab_unit.specs.Refusing.{text_refusal, order_refusal, call_refusal, refusal}
+use Rattle.cab_unit.specs.Presses.{entered_if, acknowledge_change, start_change, without_train, close_change, press_change, pressed}
+use Rattle.cab_unit.specs.Refusing.{text_refusal, press_refusal, order_refusal, call_refusal, refusal}
 use Rattle.driver_desk.specs.Requests.{before, of_class, not_of_class, is_for, waits, number_of}
 use Rattle.cab_unit.specs.State.{State, moving}
 use Rattle.cab_unit.specs.Steps.{changed, state_at, next, switched_on}
@@ -343,12 +346,8 @@ level-small Zero = omega arith
 level-small One = omega arith
 level-small Two = omega arith
 
--- what an enabled button tells, by its number
-at_button : (n k : ℕ) (s : State) → enabled n s ≡ true → eqb n k ≡ true → enabled k s ≡ true
-at_button n k s h e = subst (λ x. enabled x s ≡ true) (eqb-true n k e) h
-
 -- Start
-facts_start : (s : State) → Facts s → enabled 2 s ≡ true → After (start_change s)
+facts_start : (s : State) → Facts s → enabled button.Start s ≡ true → After (start_change s)
 unfolding start_change enabled
 facts_start s f h =
     let start : startable s.desk.mode ≡ true = grind (arith, nat_tests) in
@@ -361,7 +360,7 @@ facts_start s f h =
     (λ two. cond_both (is_level s.desk.level One) _ _ After (λ one. ask 1 (simp start (grind (arith, nat_tests)))) (λ one. ask 6 (simp start (grind (arith, nat_tests)))))
 
 -- Shunting
-facts_shunting : (s : State) → Facts s → enabled 3 s ≡ true → Facts (entered Shunting s)
+facts_shunting : (s : State) → Facts s → enabled button.Shunting s ≡ true → Facts (entered Shunting s)
 unfolding enabled
 facts_shunting s f h =
     let pend : s.desk.pending ≡ false = elim (cases_Bool s.desk.pending) [
@@ -371,13 +370,13 @@ facts_shunting s f h =
     (facts_moved Shunting s f (grind (arith, nat_tests)) (grind (arith, nat_tests)) pend (fits_anywhere (with_mode Shunting s.desk) refl refl)).0
 
 -- Exit shunting
-facts_exit : (s : State) → Facts s → enabled 4 s ≡ true → Facts (entered Standby s)
+facts_exit : (s : State) → Facts s → enabled button.ExitShunting s ≡ true → Facts (entered Standby s)
 unfolding enabled
 facts_exit s f h =
     (facts_moved Standby s f (grind (arith, nat_tests)) (grind (arith, nat_tests)) (no_start s f.1 (grind (arith, nat_tests))) (fits_anywhere (with_mode Standby s.desk) refl refl)).0
 
 -- Override
-facts_override : (s : State) → Facts s → enabled 5 s ≡ true → Facts (entered StaffResponsible s)
+facts_override : (s : State) → Facts s → enabled button.Override s ≡ true → Facts (entered StaffResponsible s)
 unfolding enabled
 facts_override s f h = (facts_left StaffResponsible s f (grind (arith, nat_tests)) (grind (arith, nat_tests)) refl).0
 
@@ -389,7 +388,7 @@ facts_set l s f h =
     (fits_anywhere (with_level l s.desk) (grind (arith, nat_tests)) (grind (arith, nat_tests))) (grind (arith, nat_tests)) (holds_fit s.desk s.waiting f.3) (queue_of s f)
 
 -- Close desk
-facts_close : (s : State) → Facts s → enabled 9 s ≡ true → After (close_change s)
+facts_close : (s : State) → Facts s → enabled button.CloseDesk s ≡ true → After (close_change s)
 unfolding close_change enabled
 facts_close s f h =
     let l = s.waiting in
@@ -401,36 +400,32 @@ facts_close s f h =
     (number_withdrawn class.Mode l) (all_kept_by (not_of_class class.Mode) (λ r. hold_fits r ≡ true) l (holds_fit s.desk l f.3)) (queue_kept (not_of_class class.Mode) l (queue_of s f)) in
     facts_kept (not_of_class class.Text) (with_waiting (filter (not_of_class class.Level) k) u) (facts_kept (not_of_class class.Level) u new)
 
--- the level buttons
-level_button : (n : ℕ) (s : State) → is_button n ≡ true → enabled n s ≡ true → leb 6 n ≡ true → leb n 8 ≡ true → settable s ≡ true
+-- an enabled level button
+level_button : (l : Level) (s : State) → enabled (button.Level l) s ≡ true → settable s ≡ true
 unfolding enabled
-level_button n s b h low high =
-    let e₁ : eqb n 1 ≡ false = grind (arith, nat_tests) in
-    let e₂ : eqb n 2 ≡ false = grind (arith, nat_tests) in
-    let e₃ : eqb n 3 ≡ false = grind (arith, nat_tests) in
-    let e₄ : eqb n 4 ≡ false = grind (arith, nat_tests) in
-    let e₅ : eqb n 5 ≡ false = grind (arith, nat_tests) in
-    simp (e₁, e₂, e₃, e₄, e₅, low, high) at h
+level_button l s h = h
 
 -- a press of an enabled button
-facts_press : (n : ℕ) (s : State) → Facts s → is_button n ≡ true → enabled n s ≡ true → After (press_change n s)
+facts_press : (b : Button) (s : State) → Facts s → enabled b s ≡ true → After (press_change b s)
 unfolding press_change
-facts_press n s f b h =
-    cond_both (eqb n 1) _ _ After (λ _. acknowledged_first s.waiting s f)
-    (λ e₁. cond_both (eqb n 2) _ _ After (λ e. facts_start s f (at_button n 2 s h e))
-    (λ e₂. cond_both (eqb n 3) _ _ After (λ e. facts_shunting s f (at_button n 3 s h e))
-    (λ e₃. cond_both (eqb n 4) _ _ After (λ e. facts_exit s f (at_button n 4 s h e))
-    (λ e₄. cond_both (eqb n 5) _ _ After (λ e. facts_override s f (at_button n 5 s h e))
-    (λ e₅. cond_both (leb n 8) _ _ After (λ e. facts_set (level_of (n - 6)) s f (level_button n s b h (grind (arith, nat_tests)) e))
-    (λ e. facts_close s f (at_button n 9 s h (grind (arith, nat_tests)))))))))
+facts_press button.Acknowledge s f h = acknowledged_first s.waiting s f
+facts_press button.Start s f h = facts_start s f h
+facts_press button.Shunting s f h = facts_shunting s f h
+facts_press button.ExitShunting s f h = facts_exit s f h
+facts_press button.Override s f h = facts_override s f h
+facts_press (button.Level l) s f h = facts_set l s f (level_button l s h)
+facts_press button.CloseDesk s f h = facts_close s f h
+
+-- a press that is not refused
+facts_pressed : (o : Option Button) (s : State) → Facts s → press_refusal o s ≡ None → After (pressed o s)
+facts_pressed None s f h = absurd (none_is_not_some NoSuchButton (sym h))
+facts_pressed (Some b) s f h = facts_press b s f (needing-none (enabled b s) ButtonNotEnabled None h).0
 
 -- an accepted call
 facts_changed : (reads : List ℕ → Option ℕ) (e : Event) (s : State) → Facts s → call_refusal e s ≡ None → After (changed reads e s)
 facts_changed reads (cycle block) s f h = facts_cycle (reads block) s f
 facts_changed reads (order o) s f h = facts_order o s f h
-facts_changed reads (press n) s f h =
-    let a = needing-none (is_button n) NoSuchButton _ h in
-    facts_press n s f a.0 (needing-none (enabled n s) ButtonNotEnabled None a.1).0
+facts_changed reads (press n) s f h = facts_pressed (button_numbered n) s f h
 facts_changed reads (take t) s f h = f
 
 -- a call, refused or not

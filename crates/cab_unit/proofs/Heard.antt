@@ -1,4 +1,4 @@
--- What it tells that a call is not refused. Assumes nothing.
+-- What it tells that a call is not refused.
 use Rattle.std.proofs.Common.{◌≡◌, Bool, true, false, cond, ◌&&◌, ◌||◌, Some, None, Option, sym, refl}
 use Rattle.std.proofs.lemmas.Option.{none-some}
 use Rattle.telegram.specs.declared.modes.Mode.{Mode}

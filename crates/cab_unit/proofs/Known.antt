@@ -1,24 +1,18 @@
 -- What the facts of a state give a call, so that what it raises finds room.
-use Rattle.std.proofs.Common.{◌≡◌, true, false, None, sym, ap, ◌∙◌, subst, arith}
+use Rattle.std.proofs.Common.{◌≡◌, true, false, sym, ap, ◌∙◌, arith}
 use mathlib.Core.Bool.{Bool-set}
 use mathlib.Core.Logic.{∥∥₁_elim}
 use native.Mathlib.Nat.{ℕ_set}
 use Rattle.std.proofs.lemmas.Bool.Decides.{nat_tests}
-use Rattle.telegram.specs.Format.{OrderValue, OrderValue.stop, OrderValue.permission}
 use Rattle.telegram.specs.declared.modes.Mode.TheVariants.{StaffResponsible, Unfitted, Trip}
 use Rattle.cab_unit.specs.Cycles.{counted}
-use Rattle.cab_unit.specs.Events.{Event.order}
 use Rattle.cab_unit.specs.Facts.{Facts}
-use Rattle.cab_unit.specs.Heard.{hears_stop}
 use Rattle.driver_desk.specs.Numbers.{is_mode, is_level}
-use Rattle.cab_unit.specs.Refusing.{refusal}
 use Rattle.driver_desk.specs.Requests.{waits, number_of}
 use Rattle.cab_unit.specs.State.{State}
 use Rattle.driver_desk.specs.declared.level.Level.TheVariants.{Zero}
-use Rattle.driver_desk.specs.declared.refusal.Refusal.TheVariants.{NotHeard}
 use Rattle.driver_desk.specs.declared.request.Class.TheVariants as class
 use Rattle.cab_unit.proofs.Facts.{holds_fit, no_hold}
-use Rattle.cab_unit.proofs.Heard.{accepted, needing-none, stop_is}
 
 -- outside Trip no trip waits
 pub known_no_trip : (s : State) → ∥ Facts s ∥₁ → is_mode s.desk.mode Trip ≡ false → number_of class.Trip s.waiting ≡ 0
@@ -36,19 +30,9 @@ known_unfitted s t h = ∥∥₁_elim t (Bool-set _ _) (λ f. f.2.1 h)
 pub known_responsible : (s : State) → ∥ Facts s ∥₁ → is_level s.desk.level Zero ≡ true → is_mode s.desk.mode StaffResponsible ≡ false
 known_responsible s t h = ∥∥₁_elim t (Bool-set _ _) (λ f. let z = f.2.0 h in grind (arith, nat_tests))
 
--- a stop is heard in no Trip
-pub stop_untripped : (o : OrderValue) (s : State) → o ≡ stop → ∥ Facts s ∥₁ → refusal (order o) s ≡ None → number_of class.Trip s.waiting ≡ 0
-stop_untripped o s e t h =
-    let a = (accepted (order stop) s (subst (λ v. refusal (order v) s ≡ None) e h)).1 in
-    let heard = sym (stop_is s.desk.mode) ∙ (needing-none (hears_stop s.desk.mode) NotHeard None a).0 in
-    known_no_trip s t (grind (arith, nat_tests))
-
--- a permission is heard where a start is pending
-pub permission-unasked : (o : OrderValue) (s : State) → o ≡ permission → ∥ Facts s ∥₁ → refusal (order o) s ≡ None → number_of class.Mode s.waiting ≡ 0
-permission-unasked o s e t h =
-    let a = (accepted (order permission) s (subst (λ v. refusal (order v) s ≡ None) e h)).1 in
-    let pending = (needing-none s.desk.pending NotHeard None a).0 in
-    ∥∥₁_elim t (ℕ_set _ _) (λ f. (f.1 pending).2)
+-- where a start is pending, no mode request waits
+pub known_unasked : (s : State) → ∥ Facts s ∥₁ → s.desk.pending ≡ true → number_of class.Mode s.waiting ≡ 0
+known_unasked s t h = ∥∥₁_elim t (ℕ_set _ _) (λ f. (f.1 h).2)
 
 -- the count of silence leaves mode and requests, so what a moving train raises finds room
 pub watch_room : (s t v : State) → ∥ Facts s ∥₁ → t.desk ≡ s.desk → t.waiting ≡ s.waiting → v ≡ counted t →

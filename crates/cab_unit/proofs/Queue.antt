@@ -1,4 +1,4 @@
--- What waits: few of each class, no two for one class and number, in order. Assumes nothing.
+-- What waits: few of each class, no two for one class and number, in order.
 use Rattle.std.proofs.Common.{◌≡◌, ℕ, ◌+◌, ◌<◌, ◌≤◌, Bool, true, false, cond, eqb, List, [], ◌∷◌, filter, inl, inr, arith}
 use Rattle.std.specs.List.{AllByRecursion}
 use Rattle.std.proofs.ByRecursion.{all_kept_by, All-weaker}

@@ -1,4 +1,4 @@
--- Three readings of the rules that are ruled out. Assumes nothing.
+-- Three readings of the rules that are ruled out.
 use Rattle.std.proofs.Common.{◌≡◌, ℕ, true, false, not, ◌&&◌, ltb, List, [], ◌∷◌, Some, None, Option, sym, refl, ap, ◌∙◌, subst, inl, inr, arith}
 use Rattle.std.specs.List.{AllByRecursion}
 use Rattle.std.proofs.lemmas.Bool.{cases_Bool, cond_both, cond-true, both_ways}
@@ -7,6 +7,7 @@ use Rattle.telegram.specs.Format.{OrderValue.authority}
 use Rattle.telegram.specs.declared.modes.Mode.{Mode}
 use Rattle.telegram.specs.declared.modes.Mode.TheVariants.{OnSight, SystemFailure}
 use Rattle.cab_unit.specs.Buttons.{supervised, startable}
+use Rattle.cab_unit.specs.declared.button.Button.TheVariants as button
 use Rattle.cab_unit.specs.Cycles.{given, counted, lapsed, watched, cycle_change}
 use Rattle.cab_unit.specs.Events.{Event.cycle, Event.order, Event.press}
 use Rattle.cab_unit.specs.Facts.{Rising, Facts}
@@ -110,7 +111,7 @@ first-before (x ∷ xs) r h e =
     subst (λ y. AllByRecursion (λ z. before z y ≡ false) (x ∷ xs)) same (first_least before-order x xs h)
 
 -- what Acknowledge says it ended is the first
-press-ends : (o : Option Refusal) (s : State) (r : Request) → (answer_at o s (press_change 1 s)).acknowledged ≡ Some r → first_of s.waiting ≡ Some r
+press-ends : (o : Option Refusal) (s : State) (r : Request) → (answer_at o s (press_change button.Acknowledge s)).acknowledged ≡ Some r → first_of s.waiting ≡ Some r
 unfolding press_change acknowledge_change
 press-ends None s r e = e
 press-ends (Some _) s r e = absurd (none-some r e)

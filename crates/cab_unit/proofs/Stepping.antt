@@ -6,7 +6,10 @@ use Rattle.telegram.specs.declared.modes.Mode.TheVariants.{Standby}
 use Rattle.cab_unit.specs.Events.{Event}
 use Rattle.cab_unit.specs.Facts.{Facts}
 use Rattle.cab_unit.specs.Line.{settled}
+use Rattle.cab_unit.specs.Places.{ordered}
 use Rattle.cab_unit.specs.State.{State}
+use Rattle.cab_unit.specs.View.{bare}
+use Rattle.cab_unit.specs.declared.cab.Cab.{Cab}
 use Rattle.cab_unit.specs.Steps.{next, switched_on}
 use Rattle.driver_desk.specs.declared.level.Level.TheVariants.{Zero}
 use Rattle.driver_desk.specs.declared.request.Request.{Request}
@@ -27,3 +30,7 @@ switched_on_lem speed l line t e h =
 
 pub facts_new : (speed : Option ℕ) (t : State) → t ≡ switched_on speed → ∥ Facts t ∥₁
 facts_new speed t h = ∣ subst Facts (sym h) (facts_on speed) ∣₁
+
+-- the facts of a cab hold of one that is the same
+pub facts_kept : {E : Type 0} (a b : Cab E) → a ≡ b → ∥ Facts (bare b.desk (ordered b.waiting.items)) ∥₁ → ∥ Facts (bare a.desk (ordered a.waiting.items)) ∥₁
+facts_kept a b h f = subst (λ k. ∥ Facts (bare k.desk (ordered k.waiting.items)) ∥₁) (sym h) f

@@ -5,22 +5,23 @@ use Rattle.cab_unit.specs.Buttons.{supervised, startable}
 use Rattle.cab_unit.specs.Line.{listening}
 use Rattle.cab_unit.specs.Moves.{with_authority, with_silence, on_desk, entered, withdrawn_at, failing, Change, change, quiet, raising}
 use Rattle.driver_desk.specs.Requests.{waits}
+use Rattle.cab_unit.specs.declared.limits.TheConstants.{LONGEST_SILENCE}
 use Rattle.cab_unit.specs.State.{State, standing, moving}
 use Rattle.driver_desk.specs.declared.request.Class.TheVariants as class
 
 -- one cycle more, and the block's speed
 abbrev pub given : Option ℕ → State → State
-given speed s = record { desk = s.desk; train = s.train; cycle = s.cycle + 1; waiting = s.waiting; speed = speed; line = s.line }
+given speed s = record s { cycle = s.cycle + 1; speed = speed }
 
--- silence grows by 1 up to 401
+-- one more silent cycle; 401 is the most that is counted
 unfoldable pub counted : State → State
-counted s = on_desk (λ d. with_silence (cond (listening d && nat_lt d.silence 401) (d.silence + 1) d.silence) d) s
+counted s = on_desk (λ d. with_silence (cond (listening d && nat_lt d.silence LONGEST_SILENCE) (d.silence + 1) d.silence) d) s
 
--- at 401, with the train standing, authority ends
+-- at a stand the leave to go is lost with the 401st
 unfoldable pub lapsed : State → State
-lapsed s = on_desk (λ d. with_authority (cond (d.silence == 401 && standing s.speed) false d.authority) d) s
+lapsed s = on_desk (λ d. with_authority (cond (d.silence == LONGEST_SILENCE && standing s.speed) false d.authority) d) s
 
--- moving in Standby or Post Trip raises a hold, unless one waits; moving in a supervised mode without authority trips
+-- a train that should stand and moves is held, once; a supervised one that moves without authority is tripped
 unfoldable pub watched : State → Change
 watched s =
     cond (moving s.speed && startable s.desk.mode && not (waits class.Hold 0 s.waiting)) (raising class.Hold 0 false s 0)

@@ -2,8 +2,10 @@
 use Rattle.std.specs.Prelude.{◌≡◌, ◌≤◌, Bool, true, false, cond, not, ◌&&◌, ◌||◌, List, [], ◌∷◌, ◌==◌}
 use Rattle.std.specs.List.{AllByRecursion}
 use Rattle.telegram.specs.declared.modes.Mode.{Mode}
-use Rattle.telegram.specs.declared.modes.Mode.TheVariants.{Standby, Shunting, Unfitted, Trip, SystemFailure}
+use Rattle.telegram.specs.Modes.{mode_code}
+use Rattle.telegram.specs.declared.modes.Mode.TheVariants.{Standby, StaffResponsible, Shunting, Unfitted, Trip, SystemFailure}
 use Rattle.cab_unit.specs.Buttons.{startable}
+use Rattle.cab_unit.specs.declared.limits.TheConstants.{MOST_TEXTS}
 use Rattle.driver_desk.specs.Numbers.{is_mode, is_level}
 use Rattle.driver_desk.specs.Requests.{before, of_class, is_for, number_of}
 use Rattle.cab_unit.specs.State.{State}
@@ -26,11 +28,11 @@ abbrev pub Apart : List Request → Type 0
 Apart [] = Unit {0}
 Apart (r ∷ rs) = AllByRecursion (λ x. same_request r x ≡ false) rs × Apart rs
 
--- at most twelve texts, and at most one of each other class
+-- the texts that may wait, and at most one of each other class
 abbrev pub Few : List Request → Type 0
 Few l =
     (number_of class.Trip l ≤ 1) × (number_of class.Mode l ≤ 1) × (number_of class.Level l ≤ 1)
-    × (number_of class.Hold l ≤ 1) × (number_of class.Text l ≤ 12)
+    × (number_of class.Hold l ≤ 1) × (number_of class.Text l ≤ MOST_TEXTS)
 
 -- a trip waits only in Trip
 abbrev pub TripsInTrip : State → Type 0
@@ -52,7 +54,7 @@ LevelFits d = (is_level d.level Zero ≡ true → zero_mode d.mode ≡ true) × 
 -- an untimed mode request waits only in Standby or Post Trip: for Unfitted at level 0, for Staff Responsible at 1 and 2; a hold has number 0
 abbrev pub fitting : Desk → Request → Bool
 fitting d r =
-    (not (of_class class.Mode r && not r.timed) || (startable d.mode && cond (is_level d.level Zero) (r.number == 6) (r.number == 1)))
+    (not (of_class class.Mode r && not r.timed) || (startable d.mode && cond (is_level d.level Zero) (r.number == mode_code Unfitted) (r.number == mode_code StaffResponsible)))
     && (not (of_class class.Hold r) || r.number == 0)
 
 abbrev pub Facts : State → Type 0

@@ -3,7 +3,7 @@ use Rattle.std.specs.Prelude.{Bool, true, false}
 use Rattle.telegram.specs.declared.modes.Mode.{Mode}
 use Rattle.telegram.specs.declared.modes.Mode.TheVariants.{Standby, StaffResponsible, FullSupervision, OnSight, LimitedSupervision, Shunting, Unfitted, Trip, PostTrip, SystemFailure}
 
--- in Standby and Post Trip only with a start pending
+-- before the train sets off it has to have been asked for
 abbrev pub hears_authority : Mode → Bool → Bool
 hears_authority Standby pending = pending
 hears_authority StaffResponsible pending = true

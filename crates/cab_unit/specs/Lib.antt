@@ -12,3 +12,4 @@ pub mod Steps
 pub mod Facts
 pub mod Places
 pub mod View
+pub mod Units

@@ -14,50 +14,42 @@ use Rattle.driver_desk.specs.declared.request.Request.{Request}
 
 -- the desk with one part changed
 abbrev pub with_mode : Mode → Desk → Desk
-with_mode m d = record { mode = m; level = d.level; authority = d.authority; pending = d.pending; silence = d.silence }
+with_mode m d = record d { mode = m }
 
 abbrev pub with_level : Level → Desk → Desk
-with_level l d = record { mode = d.mode; level = l; authority = d.authority; pending = d.pending; silence = d.silence }
+with_level l d = record d { level = l }
 
 abbrev pub with_authority : Bool → Desk → Desk
-with_authority b d = record { mode = d.mode; level = d.level; authority = b; pending = d.pending; silence = d.silence }
+with_authority b d = record d { authority = b }
 
 abbrev pub with_pending : Bool → Desk → Desk
-with_pending b d = record { mode = d.mode; level = d.level; authority = d.authority; pending = b; silence = d.silence }
+with_pending b d = record d { pending = b }
 
 abbrev pub with_silence : ℕ → Desk → Desk
-with_silence n d = record { mode = d.mode; level = d.level; authority = d.authority; pending = d.pending; silence = n }
+with_silence n d = record d { silence = n }
 
 abbrev pub on_desk : (Desk → Desk) → State → State
-on_desk f s = record { desk = f s.desk; train = s.train; cycle = s.cycle; waiting = s.waiting; speed = s.speed; line = s.line }
+on_desk f s = record s { desk = f s.desk }
 
 abbrev pub on_waiting : (List Request → List Request) → State → State
-on_waiting f s = record { desk = s.desk; train = s.train; cycle = s.cycle; waiting = f s.waiting; speed = s.speed; line = s.line }
+on_waiting f s = record s { waiting = f s.waiting }
 
--- a change of mode withdraws what waits of class mode
+-- another mode: what was asked of the old one is out of date
 abbrev pub entered : Mode → State → State
-entered m s = record {
+entered m s = record s {
   desk = with_mode m s.desk;
-  train = s.train;
-  cycle = s.cycle;
   waiting = cond (is_mode s.desk.mode m) s.waiting (filter (not_of_class class.Mode) s.waiting);
-  speed = s.speed;
-  line = s.line;
 }
 
 -- how many that withdraws
 abbrev pub withdrawn_at : Mode → State → ℕ
 withdrawn_at m s = cond (is_mode s.desk.mode m) 0 (number_of class.Mode s.waiting)
 
--- entering System Failure withdraws all requests and ends authority and any pending start
+-- System Failure: nothing waits any more, no authority is held and no start is pending
 abbrev pub failing : State → State
-failing s = record {
+failing s = record s {
   desk = with_authority false (with_pending false (with_mode SystemFailure s.desk));
-  train = s.train;
-  cycle = s.cycle;
   waiting = [];
-  speed = s.speed;
-  line = s.line;
 }
 
 abbrev pub request : Class → ℕ → Bool → State → Request

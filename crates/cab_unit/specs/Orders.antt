@@ -16,26 +16,25 @@ use Rattle.driver_desk.specs.declared.request.Class.TheVariants as class
 abbrev pub authorized : State → State
 authorized s = on_desk (λ d. with_silence 0 (with_pending false (with_authority true d))) s
 
--- another mode is entered, and On Sight or Limited Supervision raises its timed request; the same mode raises and withdraws nothing
+-- for the mode that stands it is a renewal alone; of the others Full Supervision needs no yes
 unfoldable pub authority_change : Mode → State → Change
 authority_change m s =
     cond (is_mode s.desk.mode m) (quiet s)
     (cond (is_mode m FullSupervision) (change (entered m s) None None (withdrawn_at m s))
     (raising class.Mode (mode_code m) true (entered m s) (withdrawn_at m s)))
 
--- the level is set and class level withdrawn
+-- what was asked of the old level goes with it
 abbrev pub levelled : Level → State → State
 levelled l s = on_waiting (filter (not_of_class class.Level)) (on_desk (with_level l) s)
 
 abbrev pub unauthorized : State → State
 unauthorized s = on_desk (with_authority false) s
 
--- from level `old` to another: to level 0 Unfitted is entered and authority ends, from level 0 Staff Responsible is entered,
--- each with a timed mode request; between 1 and 2 the new level is asked for
+-- from level `old` to another: out of ETCS, into it, or from balises to radio and back
 unfoldable pub level_change : Level → Level → State → Change
 level_change old l s =
-    cond (is_level l Zero) (raising class.Mode 6 true (unauthorized (entered Unfitted (levelled l s))) (number_of class.Level s.waiting + withdrawn_at Unfitted (levelled l s)))
-    (cond (is_level old Zero) (raising class.Mode 1 true (entered StaffResponsible (levelled l s)) (number_of class.Level s.waiting + withdrawn_at StaffResponsible (levelled l s)))
+    cond (is_level l Zero) (raising class.Mode (mode_code Unfitted) true (unauthorized (entered Unfitted (levelled l s))) (number_of class.Level s.waiting + withdrawn_at Unfitted (levelled l s)))
+    (cond (is_level old Zero) (raising class.Mode (mode_code StaffResponsible) true (entered StaffResponsible (levelled l s)) (number_of class.Level s.waiting + withdrawn_at StaffResponsible (levelled l s)))
     (raising class.Level (level_number l) true (levelled l s) (number_of class.Level s.waiting)))
 
 abbrev pub text_change : ℕ → Bool → State → Change
@@ -49,4 +48,4 @@ order_change (text n wanted t) s = text_change n wanted s
 order_change (withdrawal n) s = change (on_waiting (filter (λ r. not (is_for class.Text n r))) s) None None 1
 order_change stop s = raising class.Trip 0 false (unauthorized (entered Trip s)) (withdrawn_at Trip s)
 order_change sign s = quiet (on_desk (with_silence 0) s)
-order_change permission s = raising class.Mode 1 false (on_desk (with_pending false) s) 0
+order_change permission s = raising class.Mode (mode_code StaffResponsible) false (on_desk (with_pending false) s) 0

@@ -1,6 +1,7 @@
 -- What the requests that are kept in no order mean: the same requests, in the order `before`.
 use Rattle.std.specs.Prelude.{ℕ, ◌≤◌, Bool, List, [], ◌∷◌}
 use Rattle.arrayvec.specs.ArrayVec.{ArrayVec}
+use Rattle.cab_unit.specs.declared.limits.TheConstants.{MOST_TEXTS}
 use Rattle.driver_desk.specs.Requests.{before, is_for}
 use Rattle.driver_desk.specs.Sorting.{put, tally}
 use Rattle.driver_desk.specs.declared.request.Class.{Class}
@@ -20,7 +21,7 @@ limit class.Trip = 1
 limit class.Mode = 1
 limit class.Level = 1
 limit class.Hold = 1
-limit class.Text = 12
+limit class.Text = MOST_TEXTS
 
 -- at most one for each class and number
 abbrev pub Single : List Request → Type 0

@@ -2,13 +2,13 @@
 use Rattle.std.specs.Prelude.{ℕ, false, List, [], length, Some, None, Option}
 use Rattle.telegram.specs.declared.modes.Mode.TheVariants.{Standby}
 use Rattle.train_end.specs.declared.brake_line.BrakeLine.TheVariants.{Emergency}
-use Rattle.cab_unit.specs.Buttons.{buttons_of}
+use Rattle.cab_unit.specs.Buttons.{button_numbered, buttons_of}
 use Rattle.cab_unit.specs.Cycles.{cycle_change}
 use Rattle.cab_unit.specs.Events.{Event, Event.cycle, Event.order, Event.press, Event.take}
 use Rattle.cab_unit.specs.Line.{settled}
 use Rattle.cab_unit.specs.Moves.{Change, quiet}
 use Rattle.cab_unit.specs.Orders.{order_change}
-use Rattle.cab_unit.specs.Presses.{press_change}
+use Rattle.cab_unit.specs.Presses.{pressed}
 use Rattle.cab_unit.specs.Refusing.{refusal}
 use Rattle.driver_desk.specs.Requests.{first_of}
 use Rattle.cab_unit.specs.State.{State}
@@ -18,15 +18,15 @@ use Rattle.driver_desk.specs.declared.refusal.Refusal.{Refusal}
 use Rattle.driver_desk.specs.declared.request.Request.{Request}
 use Rattle.driver_desk.specs.declared.train_record.TrainRecord.{TrainRecord}
 
--- a record held before is replaced
+-- the newer record counts
 abbrev pub with_train : TrainRecord → State → State
-with_train t s = record { desk = s.desk; train = Some t; cycle = s.cycle; waiting = s.waiting; speed = s.speed; line = s.line }
+with_train t s = record s { train = Some t }
 
 -- what an accepted call does, on an end whose reading is `reads`
 abbrev pub changed : (List ℕ → Option ℕ) → Event → State → Change
 changed reads (cycle block) s = cycle_change (reads block) s
 changed reads (order o) s = order_change o s
-changed reads (press n) s = press_change n s
+changed reads (press n) s = pressed (button_numbered n) s
 changed reads (take t) s = quiet (with_train t s)
 
 abbrev pub answering : Option Refusal → Option Request → Option Request → ℕ → State → Answer
@@ -43,7 +43,7 @@ answering outcome raised acknowledged withdrawn s = record {
   withdrawn = withdrawn;
 }
 
--- a refused call leaves the state and answers none, none and 0
+-- refused: the state as if it had not been called, and nothing to tell but the refusal
 abbrev pub state_at : Option Refusal → State → Change → State
 state_at None s h = settled h.state
 state_at (Some r) s h = s

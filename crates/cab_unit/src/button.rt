@@ -1,6 +1,6 @@
 ghost use Rattle.cab_unit.specs.Buttons.{ButtonNumbered};
 
-use driver_desk::{Level, Refusal};
+use driver_desk::{Level, Refusal, Request};
 
 // The nine buttons of the desk.
 #[derive(Clone, Copy)]
@@ -34,4 +34,14 @@ impl TryFrom<u8> for Button {
             _ => Err(Refusal::NoSuchButton),
         }
     }
+}
+
+// What takes a look at the requests or the speed, found once for all nine buttons.
+#[derive(Clone, Copy)]
+pub struct Grounds {
+    pub first: Option<Request>,
+    pub stands: bool,
+    pub crawls: bool,
+    // The train stands in Standby or Post Trip, and no request of class mode waits.
+    pub free: bool,
 }

@@ -1,5 +1,6 @@
 ghost use Rattle.std.specs.Prelude.{◌≡◌, ◌+◌, ◌-◌, ◌<◌, ◌≤◌, false, if◌then◌else◌, Some, None};
-ghost use Rattle.cab_unit.specs.Buttons.{button_number, settable as is_settable, enabled, buttons_of};
+ghost use Rattle.cab_unit.specs.Buttons.{settable as is_settable, enabled, buttons_of, grounds_of};
+ghost use Rattle.cab_unit.specs.declared.limits.TheConstants.{MOST_WAITING};
 ghost use Rattle.cab_unit.specs.Line.{line_rule, settled};
 ghost use Rattle.cab_unit.specs.Moves.{entered, withdrawn_at, raised as raised_in, request as request_in};
 ghost use Rattle.cab_unit.specs.Places.{limit};
@@ -8,15 +9,17 @@ ghost use Rattle.cab_unit.specs.Steps.{answering};
 ghost use Rattle.cab_unit.specs.View.{view, done as done_with};
 ghost use Rattle.driver_desk.specs.declared.request.Class.TheVariants as class;
 
-use crate::button::Button;
+use crate::button::{Button, Grounds};
 use crate::desk::{Desk, is_startable, is_supervised};
+use crate::limits::LONGEST_SILENCE;
 use crate::speed::{is_crawling, is_standing};
 use crate::waiting::Waiting;
 use driver_desk::{Answer, Class, Level, Refusal, Request, TrainRecord};
 use telegram::Mode;
 use train_end::{BrakeLine, TrainEnd};
 
-// What a unit is made of: the desk, the record of the train, the clock, the requests that wait, and the train end.
+// What a unit is made of: the desk, the record of the train, the cycle number, the requests that
+// wait, and the train end.
 pub struct Cab<E> {
     pub desk: Desk,
     pub train: Option<TrainRecord>,
@@ -71,59 +74,76 @@ impl<E: TrainEnd> Cab<E> {
         self.desk.mode == Mode::Standby && stands && unasked && !self.desk.pending
     }
 
+    // The requests are counted only where that tells.
+    pub fn grounds(&self) -> Grounds
+        ensures { result ≡ grounds_of (view E.TrainEnd self.now) }
+    {
+        let speed = self.end.speed();
+        let stands = is_standing(speed);
+        Grounds {
+            first: self.waiting.first(),
+            stands,
+            crawls: is_crawling(speed),
+            free: is_startable(self.desk.mode)
+                && stands
+                && self.waiting.number_of(Class::Mode) == 0,
+        }
+    }
+
     #[tactic(auto, unfolding(crate::specs::Buttons::enabled))]
-    pub fn enabled(&self, button: Button) -> bool
-        ensures { result ≡ enabled (button_number button) (view E.TrainEnd self.now) }
+    pub fn enabled(&self, button: Button, grounds: Grounds) -> bool
+        requires { grounds ≡ grounds_of (view E.TrainEnd self.now) }
+        ensures { result ≡ enabled button (view E.TrainEnd self.now) }
     {
         let desk = self.desk;
-        let stands = is_standing(self.end.speed());
-        let unasked = self.waiting.number_of(Class::Mode) == 0;
+        let Grounds {
+            first,
+            stands,
+            crawls,
+            free,
+        } = grounds;
         match button {
             // A trip and a hold are acknowledged only when standing.
-            Button::Acknowledge => self.waiting.first().is_some_and(|request| {
+            Button::Acknowledge => first.is_some_and(|request| {
                 stands || !matches!(request.class, Class::Trip | Class::Hold)
             }),
-            Button::Start => is_startable(desk.mode)
-                && stands
-                && self.train.is_some()
-                && unasked
-                && !desk.pending,
-            Button::Shunting => desk.mode == Mode::Standby
-                && stands
-                && desk.level != Level::Two
-                && unasked,
+            Button::Start => free && self.train.is_some() && !desk.pending,
+            Button::Shunting => free && desk.mode == Mode::Standby && desk.level != Level::Two,
             Button::ExitShunting => desk.mode == Mode::Shunting && stands,
-            Button::Override => is_supervised(desk.mode) && is_crawling(self.end.speed()),
-            Button::Level(_) => self.settable(),
+            Button::Override => is_supervised(desk.mode) && crawls,
+            Button::Level(_) => free && desk.mode == Mode::Standby && !desk.pending,
             Button::CloseDesk => stands && !matches!(desk.mode, Mode::Trip | Mode::SystemFailure),
         }
     }
 
-    // Added one by one: as a `sum` over a table of the nine, the proof that it fits did not close.
+    // The enabled buttons, a bit for each.
     #[tactic(auto, unfolding(crate::specs::Buttons::buttons_of))]
-    fn buttons(&self) -> u16
+    fn buttons(&self, grounds: Grounds) -> u16
+        requires { grounds ≡ grounds_of (view E.TrainEnd self.now) }
         ensures { result ≡ buttons_of (view E.TrainEnd self.now) }
     {
-        bit(self.enabled(Button::Acknowledge), 1)
-            + bit(self.enabled(Button::Start), 2)
-            + bit(self.enabled(Button::Shunting), 4)
-            + bit(self.enabled(Button::ExitShunting), 8)
-            + bit(self.enabled(Button::Override), 16)
-            + bit(self.enabled(Button::Level(Level::Zero)), 32)
-            + bit(self.enabled(Button::Level(Level::One)), 64)
-            + bit(self.enabled(Button::Level(Level::Two)), 128)
-            + bit(self.enabled(Button::CloseDesk), 256)
+        bit(self.enabled(Button::Acknowledge, grounds), 1)
+            + bit(self.enabled(Button::Start, grounds), 2)
+            + bit(self.enabled(Button::Shunting, grounds), 4)
+            + bit(self.enabled(Button::ExitShunting, grounds), 8)
+            + bit(self.enabled(Button::Override, grounds), 16)
+            + bit(self.enabled(Button::Level(Level::Zero), grounds), 32)
+            + bit(self.enabled(Button::Level(Level::One), grounds), 64)
+            + bit(self.enabled(Button::Level(Level::Two), grounds), 128)
+            + bit(self.enabled(Button::CloseDesk, grounds), 256)
     }
 
     fn line_rule(&self) -> BrakeLine
-        ensures { result ≡ line_rule self.now.desk (any_overdue self.now.cycle (view E.TrainEnd self.now).waiting) (waits class.Hold 0 (view E.TrainEnd self.now).waiting) (view E.TrainEnd self.now).speed }
+        ensures { result ≡ line_rule (view E.TrainEnd self.now) }
     {
         if matches!(self.desk.mode, Mode::Trip | Mode::SystemFailure) {
             return BrakeLine::Emergency;
         }
-        let late = self.waiting.any_overdue(self.cycle);
-        let hold = self.waiting.holds(Class::Hold, 0);
-        if late | hold | (self.desk.silence == 401) | self.end.speed().is_none() {
+        if self.desk.silence == LONGEST_SILENCE
+            || self.end.speed().is_none()
+            || self.waiting.any_overdue(self.cycle)
+            || self.waiting.holds(Class::Hold, 0)
+        {
             BrakeLine::Service
         } else {
             BrakeLine::Released
@@ -143,16 +163,18 @@ impl<E: TrainEnd> Cab<E> {
     }
 
     pub fn answer(&self, outcome: Option<Refusal>, done: Done) -> Answer
-        ensures { result ≡ answering outcome done.raised done.ended done.withdrawn (view E.TrainEnd self.now) }
+        ensures { result ≡ answering outcome done.raised done.ended done.withdrawn
+            (view E.TrainEnd self.now) }
     {
+        let grounds = self.grounds();
         Answer {
             outcome,
             mode: self.desk.mode,
             level: self.desk.level,
             line: self.end.line(),
-            buttons: self.buttons(),
+            buttons: self.buttons(grounds),
             waiting: self.waiting.len(),
-            first: self.waiting.first(),
+            first: grounds.first,
             raised: done.raised,
             acknowledged: done.ended,
             withdrawn: done.withdrawn,
@@ -169,7 +191,8 @@ impl<E: TrainEnd> Cab<E> {
     // What was done is settled, and then answered.
     pub fn finish(&mut self, done: Done) -> Answer
         ensures state { view E.TrainEnd self.new ≡ settled (view E.TrainEnd self.old) }
-        ensures answer { result ≡ answering None done.raised done.ended done.withdrawn (settled (view E.TrainEnd self.old)) }
+        ensures answer { result ≡ answering None done.raised done.ended done.withdrawn
+            (settled (view E.TrainEnd self.old)) }
     {
         self.settle();
         self.answer(None, done)
@@ -179,7 +202,7 @@ impl<E: TrainEnd> Cab<E> {
     pub fn enter(&mut self, mode: Mode) -> u8
         ensures state { view E.TrainEnd self.new ≡ entered mode (view E.TrainEnd self.old) }
         ensures number { result ≡ withdrawn_at mode (view E.TrainEnd self.old) }
-        ensures most { result ≤ 16 }
+        ensures most { result ≤ MOST_WAITING }
     {
         let number = if self.desk.mode == mode {
             0
@@ -193,7 +216,8 @@ impl<E: TrainEnd> Cab<E> {
     pub fn raise(&mut self, class: Class, number: u8, timed: bool) -> Request
         requires room { number_of class (view E.TrainEnd self.old).waiting < limit class }
         requires fresh { waits class number (view E.TrainEnd self.old).waiting ≡ false }
-        ensures state { view E.TrainEnd self.new ≡ raised_in class number timed (view E.TrainEnd self.old) }
+        ensures state { view E.TrainEnd self.new ≡
+            raised_in class number timed (view E.TrainEnd self.old) }
         ensures raised { result ≡ request_in class number timed (view E.TrainEnd self.old) }
     {
         let request = Request {
@@ -206,10 +230,11 @@ impl<E: TrainEnd> Cab<E> {
         request
     }
 
-    // Raises the only request of its class. Its callers know that none of the class waits, and would each show `room` and `fresh` anew for `raise`.
+    // Raises a request of a class of which none waits.
     pub fn raise_alone(&mut self, class: Class, number: u8, timed: bool) -> Request
         requires { number_of class (view E.TrainEnd self.old).waiting ≡ 0 }
-        ensures state { view E.TrainEnd self.new ≡ raised_in class number timed (view E.TrainEnd self.old) }
+        ensures state { view E.TrainEnd self.new ≡
+            raised_in class number timed (view E.TrainEnd self.old) }
         ensures raised { result ≡ request_in class number timed (view E.TrainEnd self.old) }
     {
         self.raise(class, number, timed)

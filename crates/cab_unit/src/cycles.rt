@@ -1,16 +1,19 @@
-ghost use Rattle.std.specs.Prelude.{◌≡◌, ◌+◌, ◌-◌, ◌<◌, false, length, None};
+ghost use Rattle.std.specs.Prelude.{◌≡◌, ◌+◌, ◌-◌, ◌<◌, false, length, Some, None, IfOk, IfErr};
 ghost use Rattle.telegram.specs.declared.modes.Mode.TheVariants as modes;
 ghost use Rattle.cab_unit.specs.Cycles.{counted, lapsed, watched, cycle_change};
+ghost use Rattle.cab_unit.specs.Events as events;
 ghost use Rattle.cab_unit.specs.Facts.{Facts};
 ghost use Rattle.cab_unit.specs.Moves.{failing};
+ghost use Rattle.cab_unit.specs.Refusing.{refusal as refusal_of};
 ghost use Rattle.driver_desk.specs.Numbers.{is_mode};
 ghost use Rattle.driver_desk.specs.Requests.{waits, number_of};
 ghost use Rattle.cab_unit.specs.View.{view, done_of, done as done_with};
 ghost use Rattle.driver_desk.specs.declared.request.Class.TheVariants as class;
 
 use crate::cab::{Cab, Done};
+use crate::limits::LONGEST_SILENCE;
 use crate::speed::{is_moving, is_standing};
-use driver_desk::Class;
+use driver_desk::{Class, Refusal};
 use telegram::Mode;
 use train_end::TrainEnd;
 
@@ -19,22 +22,26 @@ impl<E: TrainEnd> Cab<E> {
     fn count_silence(&mut self)
         ensures { view E.TrainEnd self.new ≡ counted (view E.TrainEnd self.old) }
     {
-        if self.desk.is_listening() && self.desk.silence < 401 {
+        if self.desk.is_listening() && self.desk.silence < LONGEST_SILENCE {
             self.desk.silence += 1;
         }
     }
 
-    // A standing train has no authority after 401 silent cycles. A moving one is held in Standby and Post Trip, and tripped in a supervised mode without authority.
+    // A standing train has no authority after 401 silent cycles. A moving one is held in Standby
+    // and Post Trip, and tripped in a supervised mode without authority.
     #[tactic(auto, unfolding(crate::specs::Cycles::lapsed, crate::specs::Cycles::watched))]
     fn watch(&mut self) -> Done
-        requires untripped { is_mode self.old.desk.mode modes.Trip ≡ false → number_of class.Trip (view E.TrainEnd self.old).waiting ≡ 0 }
-        requires unheld { waits class.Hold 0 (view E.TrainEnd self.old).waiting ≡ false → number_of class.Hold (view E.TrainEnd self.old).waiting ≡ 0 }
-        ensures state { view E.TrainEnd self.new ≡ (watched (lapsed (view E.TrainEnd self.old))).state }
+        requires untripped { is_mode self.old.desk.mode modes.Trip ≡ false →
+            number_of class.Trip (view E.TrainEnd self.old).waiting ≡ 0 }
+        requires unheld { waits class.Hold 0 (view E.TrainEnd self.old).waiting ≡ false →
+            number_of class.Hold (view E.TrainEnd self.old).waiting ≡ 0 }
+        ensures state { view E.TrainEnd self.new ≡
+            (watched (lapsed (view E.TrainEnd self.old))).state }
         ensures done { result ≡ done_of (watched (lapsed (view E.TrainEnd self.old))) }
     {
         let speed = self.end.speed();
         match self.desk.mode {
-            _ if self.desk.silence == 401 && is_standing(speed) => {
+            _ if self.desk.silence == LONGEST_SILENCE && is_standing(speed) => {
                 self.desk.authority = false;
                 Done::default()
             }
@@ -64,12 +71,15 @@ impl<E: TrainEnd> Cab<E> {
         Done::withdrawing(self.waiting.withdraw_all())
     }
 
-    // What an accepted cycle does: the block's speed, silence, and what the train asks for; at the last cycle number the unit fails.
+    // What an accepted cycle does: the block's speed comes first, then silence, then what a moving
+    // or standing train asks for. At the last cycle number the unit fails.
     #[tactic(auto, unfolding(crate::specs::Cycles::cycle_change))]
-    pub fn cycle_change(&mut self, block: &[u8]) -> Done
+    fn cycle_change(&mut self, block: &[u8]) -> Done
         requires { ∥ Facts (view E.TrainEnd self.old) ∥₁ }
-        ensures state { view E.TrainEnd self.new ≡ (cycle_change (E.reading block.now) (view E.TrainEnd self.old)).state }
-        ensures done { result ≡ done_of (cycle_change (E.reading block.now) (view E.TrainEnd self.old)) }
+        ensures state { view E.TrainEnd self.new ≡
+            (cycle_change (E.reading block.now) (view E.TrainEnd self.old)).state }
+        ensures done { result ≡ done_of
+            (cycle_change (E.reading block.now) (view E.TrainEnd self.old)) }
     {
         if self.cycle < u32::MAX {
             self.cycle += 1;
@@ -78,6 +88,25 @@ impl<E: TrainEnd> Cab<E> {
             self.watch()
         } else {
             self.fail()
+        }
+    }
+
+    // In System Failure a cycle is refused, which touches nothing.
+    pub fn step_cycle(&mut self, block: &[u8]) -> Result<Done, Refusal>
+        requires { ∥ Facts (view E.TrainEnd self.old) ∥₁ }
+        ensures accepted { IfOk result (λ _. refusal_of (events.Event.cycle block.now)
+            (view E.TrainEnd self.old) ≡ None) }
+        ensures state { IfOk result (λ _. view E.TrainEnd self.new ≡
+            (cycle_change (E.reading block.now) (view E.TrainEnd self.old)).state) }
+        ensures done { IfOk result (λ d. d ≡
+            done_of (cycle_change (E.reading block.now) (view E.TrainEnd self.old))) }
+        ensures refused { IfErr result (λ r. refusal_of (events.Event.cycle block.now)
+            (view E.TrainEnd self.old) ≡ Some r) }
+        ensures back { IfErr result (λ _. self.new ≡ self.old) }
+    {
+        match self.desk.mode {
+            Mode::SystemFailure => Err(Refusal::InSystemFailure),
+            _ => Ok(self.cycle_change(block)),
         }
     }
 }

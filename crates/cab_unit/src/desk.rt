@@ -1,6 +1,6 @@
 ghost use Rattle.std.specs.Prelude.{◌≡◌};
 ghost use Rattle.cab_unit.specs.Buttons.{supervised, startable};
-ghost use Rattle.cab_unit.specs.Heard.{hears_authority, hears_level, hears_stop, is_listed};
+ghost use Rattle.cab_unit.specs.Heard.{is_listed};
 ghost use Rattle.cab_unit.specs.Line.{listening};
 ghost use Rattle.driver_desk.specs.Numbers.{level_of};
 
@@ -31,13 +31,20 @@ pub fn is_startable(mode: Mode) -> bool
     matches!(mode, Mode::Standby | Mode::PostTrip)
 }
 
-// What the unit holds beside requests, record and clock. Silence counts cycles without word from the line side, at level 2 in Full Supervision or On Sight with authority; elsewhere it is 0.
+/// What a unit holds besides its requests, its train record, its cycle number and its train end.
 #[derive(Clone, Copy)]
 pub struct Desk {
+    /// The mode that stands.
     pub mode: Mode,
+    /// The level: 0, 1 or 2.
     pub level: Level,
+    /// Whether an authority is held.
     pub authority: bool,
+    /// Whether a start is pending: from Start at level 2 to an authority, a permission, Close desk
+    /// or System Failure.
     pub pending: bool,
+    /// For how many cycles the line side has been silent, 0 to 401. It counts at level 2, in Full
+    /// Supervision or On Sight, while an authority is held; elsewhere it is 0.
     pub silence: u16,
 }
 
@@ -49,50 +56,5 @@ impl Desk {
         self.level == Level::Two
             && matches!(self.mode, Mode::FullSupervision | Mode::OnSight)
             && self.authority
-    }
-
-    // Who hears an order: a match with each mode by name, as the table has a row for each, so that a new mode has to be told here.
-    pub(crate) fn hears_authority(&self) -> bool
-        ensures { result ≡ hears_authority self.now.mode self.now.pending }
-    {
-        match self.mode {
-            Mode::StaffResponsible
-            | Mode::FullSupervision
-            | Mode::OnSight
-            | Mode::LimitedSupervision => true,
-            Mode::Standby | Mode::PostTrip => self.pending,
-            Mode::Shunting | Mode::Unfitted | Mode::Trip | Mode::SystemFailure => false,
-        }
-    }
-
-    pub(crate) fn hears_level(&self) -> bool
-        ensures { result ≡ hears_level self.now.mode }
-    {
-        match self.mode {
-            Mode::StaffResponsible
-            | Mode::FullSupervision
-            | Mode::OnSight
-            | Mode::LimitedSupervision
-            | Mode::Unfitted => true,
-            Mode::Standby | Mode::Shunting | Mode::Trip | Mode::PostTrip | Mode::SystemFailure =>
-                false,
-        }
-    }
-
-    pub(crate) fn hears_stop(&self) -> bool
-        ensures { result ≡ hears_stop self.now.mode }
-    {
-        match self.mode {
-            Mode::StaffResponsible
-            | Mode::FullSupervision
-            | Mode::OnSight
-            | Mode::LimitedSupervision => true,
-            Mode::Standby
-            | Mode::Shunting
-            | Mode::Unfitted
-            | Mode::Trip
-            | Mode::PostTrip
-            | Mode::SystemFailure => false,
-        }
     }
 }

@@ -1,15 +1,17 @@
-ghost use Rattle.std.specs.Prelude.{◌≡◌, ◌+◌, ◌-◌, ◌<◌, ◌≤◌, true, false, Some, None, MatchResult};
-ghost use Rattle.cab_unit.specs.Buttons.{button_number, enabled as is_enabled};
+ghost use Rattle.std.specs.Prelude.{◌≡◌, ◌+◌, ◌-◌, ◌<◌, ◌≤◌, true, false, Some, None, IfOk, IfErr};
+ghost use Rattle.cab_unit.specs.Buttons.{button_numbered};
 ghost use Rattle.cab_unit.specs.Events as events;
-ghost use Rattle.cab_unit.specs.Presses.{entered_by, acknowledge_change, start_change, close_change, press_change};
+ghost use Rattle.cab_unit.specs.Presses.{entered_by, acknowledge_change, start_change, close_change, pressed};
 ghost use Rattle.cab_unit.specs.Refusing.{refusal as refusal_of};
 ghost use Rattle.driver_desk.specs.Requests.{number_of};
-ghost use Rattle.cab_unit.specs.View.{view, done_of};
+ghost use Rattle.cab_unit.specs.Steps.{with_train};
+ghost use Rattle.cab_unit.specs.View.{view, done, done_of};
 ghost use Rattle.driver_desk.specs.declared.request.Class.TheVariants as class;
 
 use crate::button::Button;
 use crate::cab::{Cab, Done};
-use driver_desk::{Class, Level, Refusal, Request};
+use crate::speed::{is_crawling, is_standing};
+use driver_desk::{Class, Confirmed, Level, Refusal, Request};
 use telegram::Mode;
 use train_end::TrainEnd;
 
@@ -32,20 +34,10 @@ fn entered_by(ended: Option<Request>) -> Option<Mode>
 }
 
 impl<E: TrainEnd> Cab<E> {
-    // The button pressed, or why the press is refused.
-    pub fn pressed(&self, number: u8) -> Result<Button, Refusal>
-        ensures { MatchResult result (λ b. (button_number b ≡ number) × (None ≡ refusal_of (events.Event.press number) (view E.TrainEnd self.now))) (λ e. Some e ≡ refusal_of (events.Event.press number) (view E.TrainEnd self.now)) }
-    {
-        match (self.desk.mode, Button::try_from(number)) {
-            (Mode::SystemFailure, _) => Err(Refusal::InSystemFailure),
-            (_, Ok(button)) if !self.enabled(button) => Err(Refusal::ButtonNotEnabled),
-            (_, button) => button,
-        }
-    }
-
     #[tactic(auto, unfolding(crate::specs::Presses::acknowledge_change))]
     fn acknowledge(&mut self) -> Done
-        ensures state { view E.TrainEnd self.new ≡ (acknowledge_change (view E.TrainEnd self.old)).state }
+        ensures state { view E.TrainEnd self.new ≡
+            (acknowledge_change (view E.TrainEnd self.old)).state }
         ensures done { result ≡ done_of (acknowledge_change (view E.TrainEnd self.old)) }
     {
         let ended = self.waiting.end_first();
@@ -91,27 +83,71 @@ impl<E: TrainEnd> Cab<E> {
         Done::withdrawing(modes + levels + texts)
     }
 
-    // What an accepted press does.
-    #[tactic(auto, unfolding(crate::specs::Presses::press_change))]
-    pub fn press_change(&mut self, button: Button) -> Done
-        requires { is_enabled (button_number button) (view E.TrainEnd self.old) ≡ true }
-        ensures state { view E.TrainEnd self.new ≡ (press_change (button_number button) (view E.TrainEnd self.old)).state }
-        ensures done { result ≡ done_of (press_change (button_number button) (view E.TrainEnd self.old)) }
+    // By the unit's own mode and the button, an arm refuses, and touches nothing, or moves in place.
+    #[tactic(auto, unfolding(crate::specs::Presses::press_change, crate::specs::Buttons::enabled))]
+    pub fn step_press(&mut self, number: u8) -> Result<Done, Refusal>
+        ensures accepted { IfOk result (λ _. refusal_of (events.Event.press number)
+            (view E.TrainEnd self.old) ≡ None) }
+        ensures state { IfOk result (λ _. view E.TrainEnd self.new ≡
+            (pressed (button_numbered number) (view E.TrainEnd self.old)).state) }
+        ensures done { IfOk result (λ d. d ≡
+            done_of (pressed (button_numbered number) (view E.TrainEnd self.old))) }
+        ensures refused { IfErr result (λ r. refusal_of (events.Event.press number)
+            (view E.TrainEnd self.old) ≡ Some r) }
+        ensures back { IfErr result (λ _. self.new ≡ self.old) }
     {
-        match button {
-            Button::Acknowledge => self.acknowledge(),
-            Button::Start => self.start(),
-            Button::Shunting => Done::withdrawing(self.enter(Mode::Shunting)),
-            Button::ExitShunting => Done::withdrawing(self.enter(Mode::Standby)),
-            Button::Override => {
+        let stands = is_standing(self.end.speed());
+        let unasked = self.waiting.number_of(Class::Mode) == 0;
+        match (self.desk.mode, Button::try_from(number)) {
+            (Mode::SystemFailure, _) => Err(Refusal::InSystemFailure),
+            (_, Err(refusal)) => Err(refusal),
+            (_, Ok(Button::Acknowledge)) if self.enabled(Button::Acknowledge, self.grounds()) => Ok(
+                self.acknowledge(),
+            ),
+            (Mode::Standby | Mode::PostTrip, Ok(Button::Start))
+                if stands && self.train.is_some() && unasked && !self.desk.pending => Ok(
+                self.start(),
+            ),
+            (Mode::Standby, Ok(Button::Shunting))
+                if stands && self.desk.level != Level::Two && unasked => Ok(Done::withdrawing(
+                self.enter(Mode::Shunting),
+            )),
+            (Mode::Shunting, Ok(Button::ExitShunting)) if stands => Ok(Done::withdrawing(self.enter(
+                Mode::Standby,
+            ))),
+            (Mode::FullSupervision | Mode::OnSight | Mode::LimitedSupervision, Ok(Button::Override))
+                if is_crawling(self.end.speed()) => {
                 self.desk.authority = false;
-                Done::withdrawing(self.enter(Mode::StaffResponsible))
+                Ok(Done::withdrawing(self.enter(Mode::StaffResponsible)))
             }
-            Button::Level(level) => {
-                self.desk.level = level;
-                Done::default()
+            (Mode::Standby, Ok(Button::Level(level))) if stands && unasked && !self.desk.pending =>
+                {
+                    self.desk.level = level;
+                    Ok(Done::default())
+                }
+            (mode, Ok(Button::CloseDesk)) if stands && mode != Mode::Trip => Ok(self.close_desk()),
+            (_, Ok(_)) => Err(Refusal::ButtonNotEnabled),
+        }
+    }
+
+    // A confirmed record is taken in place of any held before, or refused, which touches nothing.
+    pub fn step_take(&mut self, confirmed: &Confirmed) -> Result<Done, Refusal>
+        ensures accepted { IfOk result (λ _. refusal_of (events.Event.take confirmed.now.train)
+            (view E.TrainEnd self.old) ≡ None) }
+        ensures state { IfOk result (λ _. view E.TrainEnd self.new ≡
+            with_train confirmed.now.train (view E.TrainEnd self.old)) }
+        ensures done { IfOk result (λ d. d ≡ done None None 0) }
+        ensures refused { IfErr result (λ r. refusal_of (events.Event.take confirmed.now.train)
+            (view E.TrainEnd self.old) ≡ Some r) }
+        ensures back { IfErr result (λ _. self.new ≡ self.old) }
+    {
+        match self.desk.mode {
+            Mode::SystemFailure => Err(Refusal::InSystemFailure),
+            Mode::Standby if self.settable() => {
+                self.train = Some(*confirmed.numbers());
+                Ok(Done::default())
             }
-            Button::CloseDesk => self.close_desk(),
+            _ => Err(Refusal::RecordNotTaken),
         }
     }
 }

@@ -2,18 +2,20 @@ ghost use Rattle.std.specs.Prelude.{◌≡◌, ◌-◌, ◌<◌, ◌≤◌, fals
 ghost use Rattle.cab_unit.specs.Facts.{Few};
 ghost use Rattle.cab_unit.specs.Places.{ordered, limit, Single};
 ghost use Rattle.driver_desk.specs.Requests.{before, not_of_class, is_for, waits, number_of, first_of, rest_of, overdue, any_overdue};
+ghost use Rattle.cab_unit.specs.declared.limits.TheConstants.{MOST_WAITING};
 ghost use Rattle.driver_desk.specs.Sorting.{put, some, tally};
 ghost use Rattle.driver_desk.specs.declared.request.Class.TheVariants as class;
 
+use crate::limits::MOST_WAITING;
 use arrayvec::ArrayVec;
-use driver_desk::{Class, Request};
+use driver_desk::{CYCLES_TO_ACKNOWLEDGE, Class, Request};
 use ordering::order::first_of;
 
 // The requests that wait, kept in no order. They mean the list of them sorted by `before`.
-// No model: the unit's clauses compare its parts after a refusal, and a sorted list would forget their places.
+// A refused call leaves each of them at its place too.
 #[derive(Drop)]
 pub struct Waiting {
-    items: ArrayVec<Request, 16>,
+    items: ArrayVec<Request, MOST_WAITING>,
     ghost few: { Few (ordered items) },
     ghost single: { Single (ordered items) },
 }
@@ -33,7 +35,7 @@ impl Waiting {
         self.items.len() as u8
     }
 
-    // Whether a request of this class and number waits. The two stand apart, as order, book and laws speak of them; a pair of them would be one more kind of request.
+    // Whether a request of this class and number waits.
     pub fn holds(&self, class: Class, number: u8) -> bool
         ensures { result ≡ waits class number (ordered self.now.items) }
     {
@@ -42,7 +44,8 @@ impl Waiting {
 
     // Whether one of this class and number waits that is overdue in a cycle.
     pub fn holds_overdue(&self, class: Class, number: u8, cycle: u32) -> bool
-        ensures { result ≡ some (λ x. is_for class number x && overdue cycle x) (ordered self.now.items) }
+        ensures { result ≡ some (λ x. is_for class number x && overdue cycle x)
+            (ordered self.now.items) }
     {
         self.items
             .iter()
@@ -86,20 +89,22 @@ impl Waiting {
 
     // Withdraws those of a class, and says how many they were.
     pub fn withdraw_class(&mut self, class: Class) -> u8
-        ensures rest { ordered self.new.items ≡ filter (not_of_class class) (ordered self.old.items) }
+        ensures rest { ordered self.new.items ≡
+            filter (not_of_class class) (ordered self.old.items) }
         ensures number { result ≡ number_of class (ordered self.old.items) }
-        ensures most { result ≤ 16 }
+        ensures most { result ≤ MOST_WAITING }
     {
         let waited = self.items.len();
         self.items.retain(|r| r.class != class);
         (waited - self.items.len()) as u8
     }
 
-    // Withdraws the texts of a number, and says how many they were. The clause of one function over a closure would be longer than both bodies.
+    // Withdraws the texts of a number, and says how many they were.
     pub fn withdraw_text(&mut self, number: u8) -> u8
-        ensures rest { ordered self.new.items ≡ filter (λ r. not (is_for class.Text number r)) (ordered self.old.items) }
+        ensures rest { ordered self.new.items ≡
+            filter (λ r. not (is_for class.Text number r)) (ordered self.old.items) }
         ensures number { result ≡ tally (is_for class.Text number) (ordered self.old.items) }
-        ensures most { result ≤ 16 }
+        ensures most { result ≤ MOST_WAITING }
     {
         let waited = self.items.len();
         self.items.retain(|r| !is_for(r, Class::Text, number));
@@ -125,5 +130,5 @@ fn is_for(request: &Request, class: Class, number: u8) -> bool
 fn is_overdue(request: &Request, cycle: u32) -> bool
     ensures { result ≡ overdue cycle request.now }
 {
-    request.timed && cycle.saturating_sub(request.raised) > 50
+    request.timed && cycle.saturating_sub(request.raised) > CYCLES_TO_ACKNOWLEDGE
 }

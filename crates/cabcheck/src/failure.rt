@@ -27,7 +27,7 @@ impl<'n> Failure<'n> {
         }
     }
 
-    // Whoever read the output has closed it, and needs no word on that.
+    // Whether the reader of the output has closed it. That is not said on standard error.
     pub fn is_closed_output(&self) -> bool {
         matches!(self, Failure::Output(error) if error.kind() == io::ErrorKind::BrokenPipe)
     }

@@ -2,32 +2,38 @@ use std::alloc::Global;
 use std::io::Write;
 use std::{fmt, io};
 
-// A line of the table while it is put together, in columns.
+// A line of the table while it is put together, in columns. A piece for which memory is wanting
+// makes its printing fail.
 #[derive(Drop)]
 pub struct Line {
     bytes: Vec<u8>,
+    error: Option<io::Error>,
 }
 
 impl Line {
     pub fn new(heap: Global) -> Line {
         Line {
             bytes: Vec::new(heap),
+            error: None,
         }
     }
 
     // One piece more.
-    pub fn put<D: fmt::Display + Drop>(&mut self, piece: D) -> io::Result<()> {
-        write!(self.bytes, "{piece}")
+    pub fn put<D: fmt::Display + Drop>(&mut self, piece: D) {
+        if let Err(error) = write!(self.bytes, "{piece}") {
+            self.error = Some(error);
+        }
     }
 
     // One piece more, with blanks behind it up to a width.
-    pub fn left<D: fmt::Display + Drop>(&mut self, piece: D, width: usize) -> io::Result<()> {
+    pub fn left<D: fmt::Display + Drop>(&mut self, piece: D, width: usize) {
         let end = self.bytes.len().saturating_add(width);
-        self.put(piece)?;
-        if self.bytes.len() < end {
-            self.bytes.resize(end, b' ')?;
+        self.put(piece);
+        if self.bytes.len() < end
+            && let Err(error) = self.bytes.resize(end, b' ')
+        {
+            self.error = Some(error.into());
         }
-        Ok(())
     }
 
     // Begins the line anew.
@@ -37,6 +43,9 @@ impl Line {
 
     // Prints the line without blanks at its end, and begins the next.
     pub fn print<W: Write>(&mut self, out: &mut W) -> io::Result<()> {
+        if let Some(error) = self.error.take() {
+            return Err(error);
+        }
         out.write_all(self.bytes.trim_ascii_end())?;
         out.write_all(b"\n")?;
         self.bytes.clear();

@@ -1,4 +1,6 @@
-//! The program: runs a call list through a bus cab and a pulse cab, and lays what they answer and show side by side.
+//! The program: runs a call list through a bus cab and a pulse cab, and lays what they answer and
+//! show side by side. Its exit status is 0 where nothing differs, 1 where something does, 2 for
+//! trouble.
 #![tactic(auto)]
 
 ghost use Rattle.std.specs.Prelude.{◌≡◌, MatchResult};
@@ -57,9 +59,11 @@ fn answer_asked<'a>(
     Ok(Status::Agree)
 }
 
-// The status that the program ends with. A failure is trouble, and is said on standard error first, but for a closed output.
+// The status that the program ends with. A failure is trouble, and is said on standard error first,
+// but for a closed output.
 fn ending(rt: &HostRuntime, outcome: Result<Status, Failure<'_>>) -> ExitCode
-    ensures { MatchResult outcome.entry (λ s. exit_status result ≡ status_number s) (λ _. exit_status result ≡ 2) }
+    ensures { MatchResult outcome.entry (λ s. exit_status result ≡ status_number s)
+        (λ _. exit_status result ≡ 2) }
 {
     let status = match outcome {
         Ok(status) => status,

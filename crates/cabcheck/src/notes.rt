@@ -4,7 +4,8 @@ use itertools::Itertools;
 use plan::{Note, Row, Told};
 use std::alloc::{AllocError, Global};
 
-// A fault or a refused record: its refusal number, its row and line, and how many calls stand in front of it that are compared.
+// A fault or a refused record: its refusal number, its row and line, and how many bounds stand in
+// front of it, one for each call but for those that go on in a stretch.
 #[derive(Clone, Copy)]
 pub struct Noted {
     behind: usize,
@@ -13,7 +14,8 @@ pub struct Noted {
     pub number: u8,
 }
 
-// The notes of both cabs that differ, one beside the other where both have one, and how many pairs were compared.
+// The notes of both cabs that differ, one beside the other where both have one, and how many pairs
+// were compared.
 #[derive(Drop)]
 pub struct NotesCompared {
     pub compared: usize,
@@ -22,12 +24,28 @@ pub struct NotesCompared {
     pulse_rows: Vec<usize>,
 }
 
+pub fn number_of(note: Option<Noted>) -> Option<u8> {
+    Some(note?.number)
+}
+
+pub fn line_of(note: Option<Noted>) -> Option<usize> {
+    Some(note?.line)
+}
+
+fn has_row(rows: &[usize], row: Option<usize>) -> bool {
+    match row {
+        Some(row) => rows.binary_search(&row).is_ok(),
+        None => false,
+    }
+}
+
 // An end of a telegram is told and not compared.
 fn is_compared(note: &Note) -> bool {
     !matches!(note, Note::Reading(Ok(_)))
 }
 
-// The notes of one cab. What stands inside a stretch that came in another order counts as standing behind it.
+// The notes of one cab. What stands inside a stretch that came in another order counts as standing
+// behind it.
 fn notes_in(heap: Global, rows: &[Row], marks: &[Mark]) -> Result<Vec<Noted>, AllocError> {
     let mut notes = Vec::new(heap);
     let mut marks = marks.iter();
@@ -39,7 +57,7 @@ fn notes_in(heap: Global, rows: &[Row], marks: &[Mark]) -> Result<Vec<Noted>, Al
                 if !inside {
                     behind = behind.wrapping_add(1);
                 }
-                inside = marks.next().is_some_and(|mark| mark.is_inside());
+                inside = matches!(marks.next(), Some(mark) if mark.is_inside());
             }
             Told::Note(note) if is_compared(note) => notes.push(Noted {
                 behind,
@@ -75,7 +93,7 @@ pub fn compare_notes(
         let one = one.copied();
         let other = other.copied();
         found.compared = found.compared.wrapping_add(1);
-        if one.map(|note| note.number) != other.map(|note| note.number) {
+        if number_of(one) != number_of(other) {
             found.add(one, other)?;
         }
     }
@@ -96,7 +114,6 @@ impl NotesCompared {
 
     // Whether the note in a row of either cab differs.
     pub fn differs(&self, bus_row: Option<usize>, pulse_row: Option<usize>) -> bool {
-        bus_row.is_some_and(|row| self.bus_rows.binary_search(&row).is_ok())
-            || pulse_row.is_some_and(|row| self.pulse_rows.binary_search(&row).is_ok())
+        has_row(&self.bus_rows, bus_row) || has_row(&self.pulse_rows, pulse_row)
     }
 }

@@ -3,17 +3,19 @@ ghost use Rattle.plan.specs.Calls.{list_or};
 ghost use Rattle.side_by_side.specs.Lists.{StatusOfLists};
 
 use crate::failure::Failure;
-use crate::notes::compare_notes;
+use crate::notes::{NotesCompared, compare_notes};
 use crate::sides::{Side, Sides};
 use crate::summary::print_summary;
 use crate::table::print_table;
 use crate::tsv::print_tsv;
 use bench::Ran;
 use call_list::Listed;
+use compare::Verdict;
 use driver_desk::Answer;
 use plan::{Cab, Plan, Plans, plan_lists};
 use side_by_side::{BothCabs, Finding, ReadyCabs, Status};
 use std::alloc::Global;
+use std::io;
 use std::io::Write;
 use train_end::{BusEnd, PulseEnd, TrainEnd};
 
@@ -63,6 +65,34 @@ fn side<'p, 'a>(
 }
 
 // Prints what came of both runs, and says so where nothing was compared.
+fn print_noted<W: Write + Drop, S: Write + Drop>(
+    out: &mut W,
+    err: &mut S,
+    heap: Global,
+    tsv: bool,
+    sides: &Sides<'_, '_>,
+    verdict: &Verdict<'_>,
+    notes: &NotesCompared,
+    status: Status,
+) -> io::Result<()> {
+    if tsv {
+        print_tsv(out, sides)?;
+    } else {
+        print_table(out, heap, sides, &verdict.marks, notes)?;
+    }
+    if status == Status::Trouble {
+        out.flush()?;
+        writeln!(err, "{NOTHING_COMPARED}")?;
+    } else if tsv {
+        out.flush()?;
+        print_summary(err, sides, verdict, notes, status)?;
+    } else {
+        print_summary(out, sides, verdict, notes, status)?;
+        out.flush()?;
+    }
+    err.flush()
+}
+
 fn print_sides<W: Write + Drop, S: Write + Drop>(
     out: &mut W,
     err: &mut S,
@@ -74,27 +104,13 @@ fn print_sides<W: Write + Drop, S: Write + Drop>(
 ) -> Result<(), Failure<'static>> {
     let verdict = &finding.verdict;
     let notes = compare_notes(heap, sides, &verdict.marks)?;
-    if tsv {
-        print_tsv(out, sides)?;
-    } else {
-        print_table(out, heap, sides, &verdict.marks, &notes)?;
-    }
-    if status == Status::Trouble {
-        out.flush()?;
-        writeln!(err, "{NOTHING_COMPARED}")?;
-    } else if tsv {
-        out.flush()?;
-        print_summary(err, sides, verdict, &notes, status)?;
-    } else {
-        print_summary(out, sides, verdict, &notes, status)?;
-        out.flush()?;
-    }
-    err.flush()?;
+    print_noted(out, err, heap, tsv, sides, verdict, &notes, status)?;
     Ok(())
 }
 
-// Runs a list in both cabs, or the second in the pulse cab where there is one, and prints what came of it: the table with its
-// last lines, or rows on `out` and the last lines on `err`. Answers how the runs compare.
+// Runs a list in both cabs, or the second in the pulse cab where there is one, and prints what came
+// of it: the table with its last lines, or rows on `out` and the last lines on `err`. Answers how
+// the runs compare.
 pub fn report_runs<'l, W: Write + Drop, S: Write + Drop>(
     out: &mut W,
     err: &mut S,
@@ -103,7 +119,8 @@ pub fn report_runs<'l, W: Write + Drop, S: Write + Drop>(
     listed: &'l [Listed],
     second: Option<&'l [Listed]>,
 ) -> Result<Status, Failure<'static>>
-    ensures { IfOk result (λ s. StatusOfLists listed.entry.now (list_or listed.entry.now second.entry) s) }
+    ensures { IfOk result (λ s. StatusOfLists listed.entry.now
+        (list_or listed.entry.now second.entry) s) }
 {
     let plans = plan_lists(heap, &*listed, second)?;
     let Ok(ready) = ReadyCabs::new(heap, &plans, BusEnd::new(), PulseEnd::new()) else {

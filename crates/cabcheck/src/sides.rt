@@ -5,7 +5,8 @@ use cab_unit::Call;
 use driver_desk::Answer;
 use plan::{Cab, Note, Places, Row, Told};
 
-// What one cab was asked, answered and showed, with the rows that tell of it. Of each call there are an answer, a speed and a message.
+// What one cab was asked, answered and showed, with the rows that tell of it. Of each call there
+// are an answer, a speed and a message.
 #[derive(Clone, Copy)]
 pub struct Side<'p, 'a> {
     pub cab: Cab,
@@ -25,7 +26,8 @@ pub struct Sides<'p, 'a> {
     pub two_lists: bool,
 }
 
-// A call with what came of it: its place among the calls, from 0, and that of its order in a telegram.
+// A call with what came of it: its place among the calls, from 0, and that of its order in a
+// telegram.
 #[derive(Clone, Copy)]
 pub struct Answered<'p, 'a> {
     pub place: usize,
@@ -80,7 +82,8 @@ impl<'p, 'a> Side<'p, 'a> {
     }
 }
 
-// The rows of one cab that are left: each that tells of a call takes the next call and what came of it.
+// The rows of one cab that are left: each that tells of a call takes the next call and what came of
+// it.
 #[derive(Drop)]
 pub struct Entries<'p, 'a> {
     rest: Side<'p, 'a>,

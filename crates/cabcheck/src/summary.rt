@@ -1,4 +1,4 @@
-use crate::notes::NotesCompared;
+use crate::notes::{NotesCompared, line_of, number_of};
 use crate::sides::{Answered, Entry, Sides};
 use crate::words::Message;
 use cab_unit::Call;
@@ -108,7 +108,8 @@ struct Placed<'p, 'a> {
     other: Answered<'p, 'a>,
 }
 
-fn calls_at<'p, 'a>(sides: &Sides<'p, 'a>, place: usize) -> Option<Placed<'p, 'a>> {
+fn calls_at<'p, 'a>(sides: &Sides<'p, 'a>, place: Option<usize>) -> Option<Placed<'p, 'a>> {
+    let place = place?;
     let (entry, one) = sides.bus.entry_of(place)?;
     let (other_entry, other) = sides.pulse.entry_of(place)?;
     let (
@@ -130,7 +131,7 @@ fn print_speeds<W: Write>(out: &mut W, sides: &Sides<'_, '_>, speeds: &Tally) ->
     let samples = Count(speeds.compared, "sample", "samples");
     let differing = Differing(speeds.differing);
     write!(out, "speeds: {samples}, {differing}")?;
-    if let Some(Placed { at, one, other }) = speeds.first.and_then(|place| calls_at(sides, place)) {
+    if let Some(Placed { at, one, other }) = calls_at(sides, speeds.first) {
         let speed = SpeedWords(one.speed);
         let other_speed = SpeedWords(other.speed);
         write!(out, ", first {at}: {speed} <> {other_speed} km/h")?;
@@ -141,7 +142,7 @@ fn print_speeds<W: Write>(out: &mut W, sides: &Sides<'_, '_>, speeds: &Tally) ->
 fn print_answers<W: Write>(out: &mut W, sides: &Sides<'_, '_>, answers: &Tally) -> io::Result<()> {
     let differing = Differing(answers.differing);
     write!(out, "answers: {} compared, {differing}", answers.compared)?;
-    if let Some(Placed { at, one, other }) = answers.first.and_then(|place| calls_at(sides, place))
+    if let Some(Placed { at, one, other }) = calls_at(sides, answers.first)
         && let Some(column) = first_difference(one.answer, other.answer)
     {
         let name = column.name();
@@ -163,10 +164,7 @@ fn print_messages<W: Write>(
 ) -> io::Result<()> {
     let differing = Differing(messages.differing);
     write!(out, "messages: {} compared, {differing}", messages.compared)?;
-    if let Some(Placed { at, one, other }) = messages
-        .first
-        .and_then(|place| calls_at(sides, place))
-    {
+    if let Some(Placed { at, one, other }) = calls_at(sides, messages.first) {
         let call = Calls(one.call, other.call);
         let message = Message(one.message);
         let other_message = Message(other.message);
@@ -187,18 +185,19 @@ fn print_notes<W: Write>(
     write!(out, "notes: {} compared, {differing}", notes.compared)?;
     if let Some((bus, pulse)) = notes.differing.first().copied() {
         let at = At {
-            bus: bus.map(|note| note.line),
-            pulse: pulse.map(|note| note.line),
+            bus: line_of(bus),
+            pulse: line_of(pulse),
             two_lists: sides.two_lists,
         };
-        let number = Number(bus.map(|note| note.number));
-        let other_number = Number(pulse.map(|note| note.number));
+        let number = Number(number_of(bus));
+        let other_number = Number(number_of(pulse));
         write!(out, ", first {at}: {number} <> {other_number}")?;
     }
     writeln!(out)
 }
 
-// What came of the comparison: whether the lists are alike, what was compared and what differs, and then one word.
+// What came of the comparison: whether the lists are alike, what was compared and what differs, and
+// then one word.
 pub fn print_summary<W: Write>(
     out: &mut W,
     sides: &Sides<'_, '_>,

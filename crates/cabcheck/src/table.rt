@@ -13,7 +13,7 @@ use std::io::Write;
 use std::{fmt, io};
 use telegram::Refused;
 
-// How wide the columns are that stand in front of a call.
+// How wide these columns are.
 const MARK_WIDTH: usize = 6;
 
 const LINE_WIDTH: usize = 7;
@@ -24,7 +24,8 @@ const CALL_WIDTH: usize = 14;
 
 const FIRST_WIDTH: usize = 14;
 
-// What stands behind the requests: the places of a telegram's order, or what the two ends mean after a cycle.
+// What stands behind the requests: the places of a telegram's order, or what the two ends mean
+// after a cycle.
 #[derive(Clone, Copy)]
 enum Column {
     Blank,
@@ -81,7 +82,8 @@ enum Said {
     Nothing,
     // Something that is compared differs.
     Differ,
-    // The calls lie in a stretch of texts that came in another order, and nothing that is compared differs.
+    // The calls lie in a stretch of texts that came in another order, and nothing that is compared
+    // differs.
     Order,
     // The calls are not the same, and nothing that is compared differs.
     Call,
@@ -156,62 +158,55 @@ struct Table<'o, W> {
 
 impl<W: Write> Table<'_, W> {
     // The columns in front of what a row tells: the mark, the lines and the cab.
-    fn begin(
-        &mut self,
-        said: Said,
-        bus: Option<usize>,
-        pulse: Option<usize>,
-        cab: &str,
-    ) -> io::Result<()> {
-        self.line.left(said.word(), MARK_WIDTH)?;
+    fn begin(&mut self, said: Said, bus: Option<usize>, pulse: Option<usize>, cab: &str) {
+        self.line.left(said.word(), MARK_WIDTH);
         if self.two_lists {
-            self.put_number(bus)?;
-            self.put_number(pulse)?;
+            self.put_number(bus);
+            self.put_number(pulse);
         } else {
-            self.put_number(bus.or(pulse))?;
+            self.put_number(bus.or(pulse));
         }
-        self.line.put(' ')?;
-        self.line.left(cab, CAB_WIDTH)
+        self.line.put(' ');
+        self.line.left(cab, CAB_WIDTH);
     }
 
-    fn put_number(&mut self, number: Option<usize>) -> io::Result<()> {
+    fn put_number(&mut self, number: Option<usize>) {
         match number {
             Some(line) => self.line.put(format_args!(" {line:>6}")),
             None => self.line.put("      -"),
         }
     }
 
-    fn put_answer(&mut self, answer: &Answer, column: Column) -> io::Result<()> {
+    fn put_answer(&mut self, answer: &Answer, column: Column) {
         let outcome = outcome_number(answer.outcome);
         let mode = answer.mode.name();
         let level = answer.level.number();
         let brake = answer.line.number();
-        self.line.put(format_args!(" {outcome:>3}  {mode:<4} {level:>5} {brake:>5}"))?;
+        self.line.put(format_args!(" {outcome:>3}  {mode:<4} {level:>5} {brake:>5}"));
         let buttons = answer.buttons;
         let waiting = answer.waiting;
-        self.line.put(format_args!(" {buttons:>7} {waiting:>7}  "))?;
-        self.line.left(RequestWords(answer.first), FIRST_WIDTH)?;
-        self.line.put(column)
+        self.line.put(format_args!(" {buttons:>7} {waiting:>7}  "));
+        self.line.left(RequestWords(answer.first), FIRST_WIDTH);
+        self.line.put(column);
     }
 
     // The row of one cab; behind a call that stands in no telegram comes `column`.
-    fn put_entry(&mut self, entry: &Entry<'_, '_>, column: Column) -> io::Result<()> {
+    fn put_entry(&mut self, entry: &Entry<'_, '_>, column: Column) {
         match entry.item {
             Item::Call(answered) => {
-                self.line.left(CallWords(answered.call), CALL_WIDTH)?;
+                self.line.left(CallWords(answered.call), CALL_WIDTH);
                 let column = answered.places.map_or(column, Column::Placed);
-                self.put_answer(answered.answer, column)?;
+                self.put_answer(answered.answer, column);
                 if let Some(words) = answered.message {
-                    self.line.put("   ")?;
-                    self.line.put(Words(Some(words)))?;
+                    self.line.put("   ");
+                    self.line.put(Words(Some(words)));
                 }
-                Ok(())
             }
             Item::Note(note) => {
-                self.line.left(note.name(), CALL_WIDTH)?;
+                self.line.left(note.name(), CALL_WIDTH);
                 let number = note.number();
-                self.line.put(format_args!(" {number:>3}"))?;
-                self.line.put(NoteWords(note))
+                self.line.put(format_args!(" {number:>3}"));
+                self.line.put(NoteWords(note));
             }
         }
     }
@@ -228,8 +223,8 @@ impl<W: Write> Table<'_, W> {
         other: &Entry<'_, '_>,
         column: Column,
     ) -> io::Result<()> {
-        self.begin(said, Some(one.line), Some(other.line), "")?;
-        self.put_entry(one, column)?;
+        self.begin(said, Some(one.line), Some(other.line), "");
+        self.put_entry(one, column);
         self.end()
     }
 
@@ -241,16 +236,16 @@ impl<W: Write> Table<'_, W> {
         other: Option<&Entry<'_, '_>>,
         column: Column,
     ) -> io::Result<()> {
-        self.begin(said, one.map(|entry| entry.line), None, "bus")?;
+        self.begin(said, line_of(one), None, "bus");
         self.put_or_nothing(one, column)?;
-        self.begin(said, None, other.map(|entry| entry.line), "pulse")?;
+        self.begin(said, None, line_of(other), "pulse");
         self.put_or_nothing(other, column)
     }
 
     fn put_or_nothing(&mut self, entry: Option<&Entry<'_, '_>>, column: Column) -> io::Result<()> {
         match entry {
-            Some(entry) => self.put_entry(entry, column)?,
-            None => self.line.put("nothing")?,
+            Some(entry) => self.put_entry(entry, column),
+            None => self.line.put("nothing"),
         }
         self.end()
     }
@@ -262,10 +257,10 @@ impl<W: Write> Table<'_, W> {
         name: &str,
         one: D,
         other: F,
-    ) -> io::Result<()> {
-        self.line.put(if *first { "" } else { ", " })?;
+    ) {
+        self.line.put(if *first { "" } else { ", " });
         *first = false;
-        self.line.put(format_args!("{name} {one} <> {other}"))
+        self.line.put(format_args!("{name} {one} <> {other}"));
     }
 
     // What differs of two calls, each by its column and both values.
@@ -275,9 +270,9 @@ impl<W: Write> Table<'_, W> {
         one: &Answered<'_, '_>,
         other: &Answered<'_, '_>,
     ) -> io::Result<()> {
-        self.line.left(found.said().word(), MARK_WIDTH)?;
+        self.line.left(found.said().word(), MARK_WIDTH);
         let lines = if self.two_lists { 2 } else { 1 };
-        self.line.left("", LINE_WIDTH * lines + CAB_WIDTH + 1)?;
+        self.line.left("", LINE_WIDTH * lines + CAB_WIDTH + 1);
         let mut first = true;
         match Untold::of_calls(one.call, other.call) {
             // In a stretch that came in another order other words are no difference.
@@ -286,12 +281,12 @@ impl<W: Write> Table<'_, W> {
             Untold::Texts(text, other_text) => {
                 let text = Message(Some(text));
                 let other_text = Message(Some(other_text));
-                self.put_difference(&mut first, "call", text, other_text)?;
+                self.put_difference(&mut first, "call", text, other_text);
             }
             Untold::Records(train, other_train) => {
                 let train = RecordWords(train);
                 let other_train = RecordWords(other_train);
-                self.put_difference(&mut first, "call", train, other_train)?;
+                self.put_difference(&mut first, "call", train, other_train);
             }
         }
         if found.answer_differs() {
@@ -299,14 +294,14 @@ impl<W: Write> Table<'_, W> {
                 let value = ColumnValue(column, one.answer);
                 let other_value = ColumnValue(column, other.answer);
                 if !same_part(column, one.answer, other.answer) {
-                    self.put_difference(&mut first, column.name(), value, other_value)?;
+                    self.put_difference(&mut first, column.name(), value, other_value);
                 }
             }
         }
         if found.message_differs() {
             let message = Message(one.message);
             let other_message = Message(other.message);
-            self.put_difference(&mut first, "message", message, other_message)?;
+            self.put_difference(&mut first, "message", message, other_message);
         }
         if first {
             self.line.clear();
@@ -348,8 +343,8 @@ impl<W: Write> Table<'_, W> {
         other: Option<&Entry<'_, '_>>,
         notes: &NotesCompared,
     ) -> io::Result<()> {
-        let bus = of_note(notes.differs(one.map(|entry| entry.row), None));
-        let pulse = of_note(notes.differs(None, other.map(|entry| entry.row)));
+        let bus = of_note(notes.differs(row_of(one), None));
+        let pulse = of_note(notes.differs(None, row_of(other)));
         if let (Some(entry), Some(other_entry)) = (one, other)
             && is_same_note(entry, other_entry)
             && bus == pulse
@@ -357,11 +352,11 @@ impl<W: Write> Table<'_, W> {
             return self.print_both(bus, entry, other_entry, Column::Blank);
         }
         if let Some(entry) = one {
-            self.begin(bus, Some(entry.line), None, "bus")?;
+            self.begin(bus, Some(entry.line), None, "bus");
             self.put_or_nothing(one, Column::Blank)?;
         }
         if let Some(entry) = other {
-            self.begin(pulse, None, Some(entry.line), "pulse")?;
+            self.begin(pulse, None, Some(entry.line), "pulse");
             self.put_or_nothing(other, Column::Blank)?;
         }
         Ok(())
@@ -374,23 +369,22 @@ impl<W: Write> Table<'_, W> {
         notes: &NotesCompared,
     ) -> io::Result<()> {
         let (one, other) = pair.left_and_right();
-        if let (Some(entry), Some(other_entry)) = (&one, &other)
+        let (one, other) = (one.as_ref(), other.as_ref());
+        if let (Some(entry), Some(other_entry)) = (one, other)
             && let (Item::Call(call), Item::Call(other_call)) = (&entry.item, &other_entry.item)
         {
             return self.print_calls((entry, other_entry), (call, other_call), marks);
         }
-        let of_call = one.is_some_and(|entry| entry.is_of_call())
-            || other.is_some_and(|entry| entry.is_of_call());
-        if of_call {
-            return self.print_each(Said::Differ, one.as_ref(), other.as_ref(), Column::Blank);
+        if is_of_call(one) || is_of_call(other) {
+            return self.print_each(Said::Differ, one, other, Column::Blank);
         }
-        self.print_notes(one.as_ref(), other.as_ref(), notes)
+        self.print_notes(one, other, notes)
     }
 
     fn print_on(&mut self, on: &Answer) -> io::Result<()> {
-        self.begin(Said::Nothing, Some(0), Some(0), "")?;
-        self.line.left("on", CALL_WIDTH)?;
-        self.put_answer(on, Column::Blank)?;
+        self.begin(Said::Nothing, Some(0), Some(0), "");
+        self.line.left("on", CALL_WIDTH);
+        self.put_answer(on, Column::Blank);
         self.end()
     }
 
@@ -400,11 +394,26 @@ impl<W: Write> Table<'_, W> {
         } else {
             "   line"
         };
-        self.line.left("mark", MARK_WIDTH)?;
-        self.line.put(lines)?;
-        self.line.put(" cab   call           out  mode level brake buttons waiting  ")?;
-        self.line.put("first          bytes or km/h  message")?;
+        self.line.left("mark", MARK_WIDTH);
+        self.line.put(lines);
+        self.line.put(" cab   call           out  mode level brake buttons waiting  ");
+        self.line.put("first          bytes or km/h  message");
         self.end()
+    }
+}
+
+fn line_of(entry: Option<&Entry<'_, '_>>) -> Option<usize> {
+    Some(entry?.line)
+}
+
+fn row_of(entry: Option<&Entry<'_, '_>>) -> Option<usize> {
+    Some(entry?.row)
+}
+
+fn is_of_call(entry: Option<&Entry<'_, '_>>) -> bool {
+    match entry {
+        Some(entry) => entry.is_of_call(),
+        None => false,
     }
 }
 
@@ -420,7 +429,8 @@ fn is_same_note(one: &Entry<'_, '_>, other: &Entry<'_, '_>) -> bool {
     }
 }
 
-// The table of both cabs. Calls stand beside calls: what is no call comes first, and alone where the other cab has a call.
+// The table of both cabs. Calls stand beside calls: what is no call comes first, and alone where
+// the other cab has a call.
 pub fn print_table<W: Write + Drop>(
     out: &mut W,
     heap: Global,

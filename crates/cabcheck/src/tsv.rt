@@ -1,8 +1,26 @@
-use crate::sides::{Answered, Entry, Item, Side, Sides};
+use crate::sides::{Entry, Item, Side, Sides};
 use crate::words::Words;
 use columns::{AnswerColumns, CallWords, HEADING, NoteColumns};
-use std::io;
 use std::io::Write;
+use std::{fmt, io};
+
+// What stands behind the line and the cab in a row.
+#[derive(Clone, Copy)]
+struct ItemColumns<'p, 'a>(Item<'p, 'a>);
+
+impl fmt::Display for ItemColumns<'_, '_> {
+    fn fmt<W: fmt::Write>(&self, f: &mut fmt::Formatter<W>) -> fmt::Result {
+        match self.0 {
+            Item::Call(answered) => {
+                let call = CallWords(answered.call);
+                let answer = AnswerColumns(answered.answer, answered.speed);
+                let message = Words(answered.message);
+                write!(f, "{call}\t{answer}\t{message}")
+            }
+            Item::Note(note) => write!(f, "{}\t{}", note.name(), NoteColumns(note)),
+        }
+    }
+}
 
 // All rows of one cab, that after switching on first.
 fn print_side<W: Write>(out: &mut W, side: &Side<'_, '_>) -> io::Result<()> {
@@ -10,26 +28,8 @@ fn print_side<W: Write>(out: &mut W, side: &Side<'_, '_>) -> io::Result<()> {
     let on = AnswerColumns(side.on, None);
     writeln!(out, "0\t{name}\ton\t{on}\t")?;
     for Entry { line, item, .. } in side.entries() {
-        match item {
-            Item::Call(
-                Answered {
-                    call,
-                    answer,
-                    speed,
-                    message,
-                    ..
-                },
-            ) => {
-                let call = CallWords(call);
-                let answer = AnswerColumns(answer, speed);
-                let message = Words(message);
-                writeln!(out, "{line}\t{name}\t{call}\t{answer}\t{message}")?;
-            }
-            Item::Note(note) => {
-                let columns = NoteColumns(note);
-                writeln!(out, "{line}\t{name}\t{}\t{columns}", note.name())?;
-            }
-        }
+        let columns = ItemColumns(item);
+        writeln!(out, "{line}\t{name}\t{columns}")?;
     }
     Ok(())
 }

@@ -18,8 +18,8 @@ impl fmt::Display for Words<'_> {
     }
 }
 
-// The words of a text where two are told beside each other: in quotation marks, with a \ before each " and \ in it,
-// or none where there is no line.
+// The words of a text where two are told beside each other: in quotation marks, with a \ before
+// each " and \ in it, or none where there is no line.
 #[derive(Clone, Copy)]
 pub struct Message<'s>(pub Option<&'s [u8]>);
 
@@ -41,7 +41,8 @@ impl fmt::Display for Message<'_> {
     }
 }
 
-// What the words of two calls in their rows leave out: the words of two texts, or the numbers of two records.
+// What the words of two calls in their rows leave out: the words of two texts, or the numbers of
+// two records.
 #[derive(Clone, Copy)]
 pub enum Untold<'s> {
     Nothing,

@@ -21,7 +21,8 @@ fn names_bytes(word: &[u8]) -> bool
     word == b"-".as_slice() || word.len() % 2 == 0 && are_digits(word)
 }
 
-// A word that names bytes. All words of a line are looked at before memory is taken for one: a bad line never wants any.
+// A word that names bytes. All words of a line are looked at before memory is taken for one: a bad
+// line never wants any.
 pub(crate) fn hex_wanted(word: &[u8]) -> Result<&[u8], Wrong>
     ensures { MatchResult result
         (λ w. (w.now ≡ word.now) × (is_some (hex_bytes word.now) ≡ true))
@@ -34,7 +35,7 @@ pub(crate) fn hex_wanted(word: &[u8]) -> Result<&[u8], Wrong>
     }
 }
 
-// The bytes that such a word names. A type for such words would be made in one place and read in one, and say no more than the clause.
+// The bytes that such a word names.
 pub(crate) fn decode(heap: Global, word: &[u8]) -> Result<Vec<u8>, AllocError>
     requires { is_some (hex_bytes word.now) ≡ true }
     ensures { IfOk result (λ v. hex_bytes word.now ≡ Some (vec_items v)) }

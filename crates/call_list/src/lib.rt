@@ -1,4 +1,7 @@
-// A call list is a text with one call to a line; here it is read, or refused at its first bad line.
+//! Call lists: a text with one call to a line, for the bus cab and the pulse cab alike.
+//!
+//! The crate reads a list, or names its first bad line. It knows the words of the format, and not
+//! what a unit answers to a call.
 #![tactic(auto)]
 
 mod entry;

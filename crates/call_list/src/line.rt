@@ -18,7 +18,7 @@ pub(crate) enum Verb {
     Order,
 }
 
-// What the first word of a line stands for; none where the line is blank or a comment. So it is no conversion to a verb alone.
+// What the first word of a line stands for; none where the line is blank or a comment.
 fn verb_of(word: &[u8]) -> Result<Option<Verb>, Wrong>
     ensures { result ≡ verb_of word.now }
 {

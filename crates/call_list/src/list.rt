@@ -16,7 +16,7 @@ fn note_line(
 ) -> Result<(), ListFault>
     ensures { Noted number (line_of line.now) listed.old.items listed.new.items result }
 {
-    // A match and no `?`: the line's number is added to a fault.
+    // A fault is told with the number of its line.
     match read_line(heap, line) {
         Ok(None) => Ok(()),
         Ok(Some(entry)) => {
@@ -34,14 +34,18 @@ fn note_line(
     }
 }
 
-// The calls of a list with the numbers of their lines, from 1, or its first bad line.
-// `split` gives an empty piece more behind a last line break: a blank line, which adds nothing.
+/// Reads a call list: its calls, in the order of their lines. Blank lines and comments ask for
+/// nothing. The calls and their bytes take their memory from `heap`.
+///
+/// `Line` names the first bad line, counted from 1, and what is wrong with it. `NoMemory` is
+/// answered only where the first line that is neither blank nor a comment is a good call.
 pub fn read_list(heap: Global, text: &[u8]) -> Result<Vec<Listed>, ListFault>
     ensures reads { ReadsList text.now result }
     ensures value { ReadsListOrWantsMemory text.now result }
     ensures names { EveryModeIsNamed }
 {
     let mut listed = Vec::new(heap);
+    // Behind a last line break `split` gives an empty piece more, which counts as a blank line.
     for (i, line) in text.split(|b| *b == b'\n').enumerate() {
         note_line(heap, &mut listed, i + 1, line)?;
     }

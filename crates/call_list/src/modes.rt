@@ -3,8 +3,7 @@ ghost use Rattle.call_list.specs.Modes.{mode_of};
 
 use telegram::Mode;
 
-// The mode with a two-letter name. A TryFrom for another crate's type can't stand here; beside the type it would bring the words of this format into the telegram's crate.
-// That `Mode::name` writes the same letters is said by `read_list`.
+// The mode with a two-letter name. `Mode::name` writes the same letters, as `read_list` says.
 pub(crate) fn mode_of(word: &[u8]) -> Option<Mode>
     ensures { result ≡ mode_of word.now }
 {

@@ -3,11 +3,10 @@ ghost use Rattle.call_list.specs.Numbers.{digits_value, number_of, number_wanted
 
 use crate::entry::Wrong;
 
+// The value of decimal digits; none where a byte is no digit, or the value passes the limit.
 fn digits_value(word: &[u8], limit: u32) -> Option<u32>
     ensures { result ≡ digits_value limit 0 word.now }
 {
-    // No `try_fold`: its closure would hold the same two tests and the same early ends, and says no more than the loop.
-    // No `parse`: it takes a sign, and a text; these are bytes, and a number has no sign here.
     let mut value: u64 = 0;
     for b in word {
         if !b.is_ascii_digit() {

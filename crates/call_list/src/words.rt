@@ -41,7 +41,8 @@ pub(crate) fn next_word(text: &[u8]) -> Result<(&[u8], &[u8]), Wrong>
 
 // Refuses a text with a word, where none is due.
 pub(crate) fn no_word(text: &[u8]) -> Result<(), Wrong>
-    ensures { MatchResult result (λ _. count_fault 0 text.now ≡ None) (λ w. count_fault 0 text.now ≡ Some w) }
+    ensures { MatchResult result (λ _. count_fault 0 text.now ≡ None)
+        (λ w. count_fault 0 text.now ≡ Some w) }
 {
     if split_word(text).0.is_empty() {
         Ok(())

@@ -6,7 +6,8 @@ use driver_desk::Answer;
 use plan::Note;
 use std::fmt;
 
-/// An answer, and the speed of the unit's own end in km/h, 0 to 600, or none where it is unknown: the columns from `outcome` to `speed`.
+/// An answer, and the speed of the unit's own end in km/h, 0 to 600, or none where it is unknown.
+/// It writes the columns from `outcome` to `speed`, with a tab between two.
 #[derive(Clone, Copy)]
 pub struct AnswerColumns<'a>(pub &'a Answer, pub Option<u16>);
 
@@ -37,8 +38,9 @@ impl fmt::Display for AnswerColumns<'_> {
     }
 }
 
-/// What is no call of the unit, in the columns from `outcome` to `message`: its number in `outcome`, in `mode` the place in the
-/// telegram where it stands or -, and - in every later column.
+/// What is no call of the unit. It writes the columns from `outcome` to `message`, with a tab
+/// between two: its number in `outcome`, in `mode` the place in the telegram where it stands, or -
+/// for a draft, and - in every later column.
 #[derive(Clone, Copy)]
 pub struct NoteColumns(pub Note);
 

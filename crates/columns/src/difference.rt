@@ -4,7 +4,7 @@ ghost use Rattle.columns.specs.Difference.{DifferFirst, SamePart};
 use crate::names::{COLUMNS, Column};
 use driver_desk::Answer;
 
-/// Whether two answers have the same in a column.
+/// Whether two answers tell the same in a column.
 pub fn same_part(column: Column, one: &Answer, other: &Answer) -> bool
     ensures { Decides result (SamePart column one.now other.now) }
 {
@@ -22,7 +22,8 @@ pub fn same_part(column: Column, one: &Answer, other: &Answer) -> bool
     }
 }
 
-/// The first column in which two answers differ; none exactly where they are equal.
+/// The first column in which two answers differ, in the order of `COLUMNS`; none exactly where they
+/// are equal.
 #[tactic(auto, using(crate::proofs::Parts::same_each))]
 pub fn first_difference(one: &Answer, other: &Answer) -> Option<Column>
     ensures none { (result ≡ None) ↔ (one.now ≡ other.now) }

@@ -1,5 +1,5 @@
-//! What a row of the program tells, in words and in tab-separated columns: a call, a request, an answer, what is no call,
-//! and in which column two answers differ.
+//! What a row of the program tells, in words and in tab-separated columns: a call, a request, an
+//! answer, and what is no call. It also finds the first column in which two answers differ.
 #![tactic(auto)]
 
 mod answers;

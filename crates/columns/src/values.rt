@@ -6,7 +6,7 @@ use crate::words::{RequestWords, outcome_number};
 use driver_desk::Answer;
 use std::fmt;
 
-/// What one column tells of an answer, as `AnswerColumns` writes it.
+/// What one column tells of an answer, as `AnswerColumns` writes it: the column, then the answer.
 #[derive(Clone, Copy)]
 pub struct ColumnValue<'a>(pub Column, pub &'a Answer);
 

@@ -8,7 +8,9 @@ use driver_desk::{Refusal, Request};
 use std::fmt;
 use telegram::Order;
 
-/// A call in the words of its row: an order as the lines of a call list have it without the word order, a cycle, a press, a taking.
+/// A call in the words of its row. An order is told as a line of a call list has it, without the
+/// word `order` and without the words of a text; a cycle without its block, a taking without its
+/// numbers.
 #[derive(Clone, Copy)]
 pub struct CallWords<'a>(pub &'a Call<'a>);
 
@@ -34,7 +36,7 @@ impl fmt::Display for CallWords<'_> {
     }
 }
 
-/// A request as CLASS:NUMBER@CYCLE with t or u for timed or untimed, or - where there is none.
+/// A request as CLASS:NUMBER@CYCLE and t or u for timed or untimed, or - where there is none.
 #[derive(Clone, Copy)]
 pub struct RequestWords(pub Option<Request>);
 
@@ -49,7 +51,7 @@ impl fmt::Display for RequestWords {
     }
 }
 
-/// A speed in whole km/h, or ? where it is unknown.
+/// A speed in whole km/h, 0 to 600, or ? where it is unknown.
 #[derive(Clone, Copy)]
 pub struct SpeedWords(pub Option<u16>);
 
@@ -64,7 +66,7 @@ impl fmt::Display for SpeedWords {
     }
 }
 
-/// 0 for a call that was accepted, or the number of the refusal.
+/// 0 for a call that was accepted, or the number of its refusal, 1 to 40.
 pub fn outcome_number(outcome: Option<Refusal>) -> u8
     ensures { result ≡ outcome_number outcome }
 {

@@ -18,11 +18,13 @@ pub(crate) fn enter<'a>(
     key: TextKey<'a>,
     more: Surplus,
 ) -> Result<(), AllocError>
-    requires small { (i : ℕ) × (j : ℕ) × Bounded i j unsettled.old × (i + more.left < 2 ^ 64) × (j + more.right < 2 ^ 64) }
+    requires small { (i : ℕ) × (j : ℕ) × Bounded i j unsettled.old × (i + more.left < 2 ^ 64) ×
+        (j + more.right < 2 ^ 64) }
     requires settled { Open unsettled.old }
     ensures entered { OnOk result (Entered unsettled.old key.entry more unsettled.new) }
     ensures settled { OnOk result (Open unsettled.new) }
-    ensures small { OnOk result ((i j : ℕ) → Bounded i j unsettled.old → Bounded (i + more.left) (j + more.right) unsettled.new) }
+    ensures small { OnOk result ((i j : ℕ) → Bounded i j unsettled.old →
+        Bounded (i + more.left) (j + more.right) unsettled.new) }
 {
     let before = unsettled
         .get(&key)

@@ -38,7 +38,8 @@ pub(crate) fn is_cycle(call: &Call<'_>) -> bool
     matches!(*call, Call::Cycle(_))
 }
 
-/// Whether two calls are the same, whatever the block of a cycle.
+/// Whether two calls are the same: of two cycles whatever their blocks, of two texts with their
+/// bytes, of two takings with their four numbers.
 pub fn same_asked(call: &Call<'_>, other: &Call<'_>) -> bool
     ensures { Decides result (unblocked (said call.now) ≡ unblocked (said other.now)) }
 {

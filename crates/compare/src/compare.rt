@@ -11,8 +11,8 @@ use crate::run::Answered;
 use std::alloc::{AllocError, Global};
 use std::collections::BTreeMap;
 
-// Whether two lists that were run are the same up to blocks and the order of neighbouring accepted texts,
-// and what is compared of each place.
+// Whether two lists that were run are the same up to blocks and the order of neighbouring accepted
+// texts, and what is compared of each place.
 #[derive(Drop)]
 pub(crate) struct Likeness {
     pub(crate) alike: bool,
@@ -39,8 +39,10 @@ fn add_marks(marks: &mut Vec<Mark>, length: usize, reordered: bool) -> Result<()
 
 // The text at this place of a run, where one stands there that was accepted.
 fn text_at<'a>(run: Answered<'a>, place: usize) -> Option<TextKey<'a>>
-    ensures found { is_some result ≡ text_next (drop place (asked run.entry)) (drop place run.entry.answers.now) }
-    ensures key { IfSome result (λ k. take (place + 1) (asked run.entry) ≡ take place (asked run.entry) ++ (keyed k ∷ [])) }
+    ensures found { is_some result ≡
+        text_next (drop place (asked run.entry)) (drop place run.entry.answers.now) }
+    ensures key { IfSome result (λ k. take (place + 1) (asked run.entry) ≡
+        take place (asked run.entry) ++ (keyed k ∷ [])) }
 {
     match (run.calls.get(place), run.answers.get(place)) {
         (Some(call), Some(answer)) if answer.outcome.is_none() => text_key(call),
@@ -58,9 +60,11 @@ struct Step {
 // The shortest stretch of accepted texts in which the same texts came, or all that both begin with.
 fn stretch_ahead(heap: Global, run: Answered<'_>, other: Answered<'_>) -> Result<Step, AllocError>
     requires long { AsLong (asked run) run.answers.now (asked other) other.answers.now }
-    requires texts { (text_next (asked run) run.answers.now && text_next (asked other) other.answers.now) ≡ true }
+    requires texts { (text_next (asked run) run.answers.now &&
+        text_next (asked other) other.answers.now) ≡ true }
     requires differ { Apart 2 (asked run) (asked other) }
-    ensures { IfOk result (λ s. Front (is_alike s.stretch) (is_reordered s.stretch) s.length (asked run.entry) run.entry.answers.now (asked other.entry) other.entry.answers.now) }
+    ensures { IfOk result (λ s. Front (is_alike s.stretch) (is_reordered s.stretch) s.length
+        (asked run.entry) run.entry.answers.now (asked other.entry) other.entry.answers.now) }
 {
     let mut account = BTreeMap::new(heap);
     let mut length: usize = 0;
@@ -83,8 +87,10 @@ fn stretch_ahead(heap: Global, run: Answered<'_>, other: Answered<'_>) -> Result
 
 // One call of each run, or the accepted texts that both begin with.
 fn compare_front(heap: Global, run: Answered<'_>, other: Answered<'_>) -> Result<Step, AllocError>
-    requires { (0 < length (asked run)) × AsLong (asked run) run.answers.now (asked other) other.answers.now }
-    ensures { IfOk result (λ s. Front (is_alike s.stretch) (is_reordered s.stretch) s.length (asked run.entry) run.entry.answers.now (asked other.entry) other.entry.answers.now) }
+    requires { (0 < length (asked run)) ×
+        AsLong (asked run) run.answers.now (asked other) other.answers.now }
+    ensures { IfOk result (λ s. Front (is_alike s.stretch) (is_reordered s.stretch) s.length
+        (asked run.entry) run.entry.answers.now (asked other.entry) other.entry.answers.now) }
 {
     if same_asked(&run.calls[0], &other.calls[0]) {
         return Ok(Step {
@@ -108,7 +114,8 @@ fn walk_lists(
     mut other: Answered<'_>,
 ) -> Result<Likeness, AllocError>
     requires { AsLong (asked run) run.answers.now (asked other) other.answers.now }
-    ensures value { IfOk result (λ l. Walked l.alike l.marks.items (asked run.entry) run.entry.answers.now (asked other.entry) other.entry.answers.now) }
+    ensures value { IfOk result (λ l. Walked l.alike l.marks.items
+        (asked run.entry) run.entry.answers.now (asked other.entry) other.entry.answers.now) }
     ensures memory { IfErr result (λ _. 0 < length (asked run.entry)) }
 {
     let mut alike = true;
@@ -125,7 +132,8 @@ fn walk_lists(
 
 // No list of two runs is longer than another.
 fn as_long(run: Answered<'_>, other: Answered<'_>) -> bool
-    ensures { Decides result (AsLong (asked run.entry) run.entry.answers.now (asked other.entry) other.entry.answers.now) }
+    ensures { Decides result (AsLong (asked run.entry) run.entry.answers.now
+        (asked other.entry) other.entry.answers.now) }
 {
     other.calls.len() == run.calls.len()
         && run.answers.len() == run.calls.len()
@@ -138,9 +146,12 @@ pub(crate) fn compare_lists(
     run: Answered<'_>,
     other: Answered<'_>,
 ) -> Result<Likeness, AllocError>
-    ensures value { IfOk result (λ l. Compared l.alike l.marks.items (asked run.entry) run.entry.answers.now (asked other.entry) other.entry.answers.now) }
-    ensures law { IfOk result (λ l. LawDecided l.alike l.marks.items (asked run.entry) run.entry.answers.now (asked other.entry) other.entry.answers.now) }
-    ensures memory { IfErr result (λ _. 0 < shortest (asked run.entry) run.entry.answers.now (asked other.entry) other.entry.answers.now) }
+    ensures value { IfOk result (λ l. Compared l.alike l.marks.items
+        (asked run.entry) run.entry.answers.now (asked other.entry) other.entry.answers.now) }
+    ensures law { IfOk result (λ l. LawDecided l.alike l.marks.items
+        (asked run.entry) run.entry.answers.now (asked other.entry) other.entry.answers.now) }
+    ensures memory { IfErr result (λ _. 0 < shortest (asked run.entry) run.entry.answers.now
+        (asked other.entry) other.entry.answers.now) }
 {
     let n = run.len().min(other.len());
     let Likeness { alike, marks } = walk_lists(heap, run.cut(n), other.cut(n))?;

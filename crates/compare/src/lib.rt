@@ -1,4 +1,6 @@
-//! Two cabs run side by side: whether their runs are alike, and what differs.
+//! Two cabs run side by side: whether they were asked alike, and what differs in speeds, answers
+//! and messages. Where neighbouring texts came in another order, it marks the places whose answers
+//! or messages are left open.
 #![tactic(auto)]
 
 mod account;

@@ -1,11 +1,14 @@
 ghost use Rattle.std.specs.Prelude.{◌≡◌, ◌≤◌, ◌<◌, ◌+◌, ◌^◌};
 ghost use Rattle.compare.specs.Compared.{none_compared, tally_with};
 
-/// How many pairs were compared, how many of them differ, and the place of the first that differs, from 0.
+/// What came of comparing pairs, place by place.
 #[derive(Clone, Copy, PartialEq, Eq, Debug)]
 pub struct Tally {
+    /// How many pairs were compared.
     pub compared: usize,
+    /// How many of these differ.
     pub differing: usize,
+    /// The place of the first that differs, counted from 0; none where none differs.
     pub first: Option<usize>,
 }
 
@@ -22,7 +25,8 @@ impl Tally {
 
     // The pair at a place is compared, where it is kept.
     pub(crate) fn add(&mut self, place: usize, kept: bool, equal: bool)
-        requires within { (self.old.compared ≤ place) × (self.old.differing ≤ place) × (place + 1 < 2 ^ 64) }
+        requires within { (self.old.compared ≤ place) × (self.old.differing ≤ place) ×
+            (place + 1 < 2 ^ 64) }
         ensures added { self.new ≡ tally_with place kept equal self.old }
     {
         if kept {

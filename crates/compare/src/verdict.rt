@@ -17,32 +17,34 @@ use messages::top_messages;
 use std::alloc::{AllocError, Global};
 
 /// How many samples of speed, answers and messages were compared, and how many differ.
-///
-/// A sample of speed is a place where both cabs were asked for a cycle.
 #[derive(Clone, Copy, PartialEq, Eq, Debug)]
 pub struct Tallies {
+    /// The speeds of both units' own ends, wherever both cabs were asked for a cycle.
     pub speeds: Tally,
+    /// The answers, with all their parts, at each place that is not left open.
     pub answers: Tally,
+    /// The messages, at each place that is `Compared` or `Last`.
     pub messages: Tally,
 }
 
 /// What is found of two runs.
-///
-/// `alike`: whether the lists of calls are the same up to blocks and the order of neighbouring accepted texts.
-/// `marks`: what is compared of each place, as far as both lists go.
-/// `messages` and `other_messages`: the words of the top line of either cab's window after each call; none where it
-/// shows no line.
 #[derive(Drop)]
 pub struct Verdict<'a> {
+    /// Whether both cabs were asked the same, but for the blocks of cycles and for the order of
+    /// neighbouring texts that both accepted. Of lists of unequal length it is false.
     pub alike: bool,
+    /// What is compared of each place, as far as both lists go.
     pub marks: Vec<Mark>,
+    /// The bytes on top of the one cab's window after each of its calls; none where no line stands.
     pub messages: Vec<Option<&'a [u8]>>,
+    /// The same of the other cab.
     pub other_messages: Vec<Option<&'a [u8]>>,
+    /// How much was compared, and how much of it differs.
     pub tallies: Tallies,
 }
 
-/// Whether two top messages are the same: the same words, or no line in both windows. A line without words is not the
-/// same as no line.
+/// Whether two top messages are the same: the same bytes, or no line in both windows. A line
+/// without words is not the same as no line.
 pub fn same_message(one: Option<&[u8]>, other: Option<&[u8]>) -> bool
     ensures { Decides result (words one.entry ≡ words other.entry) }
 {
@@ -55,7 +57,8 @@ pub fn same_message(one: Option<&[u8]>, other: Option<&[u8]>) -> bool
 
 fn same_messages(one: &[Option<&[u8]>], other: &[Option<&[u8]>], place: usize) -> bool
     requires { (place < length one.now) × (place < length other.now) }
-    ensures { Decides result (words (slice_index_or one.now place None) ≡ words (slice_index_or other.now place None)) }
+    ensures { Decides result (words (slice_index_or one.now place None) ≡
+        words (slice_index_or other.now place None)) }
 {
     same_message(one[place], other[place])
 }
@@ -68,14 +71,16 @@ fn same_answer(one: &Answer, other: &Answer) -> bool
 
 fn same_answers(one: &[Answer], other: &[Answer], place: usize) -> bool
     requires { (place < length one.now) × (place < length other.now) }
-    ensures { (d : Answer) → Decides result (slice_index_or one.now place d ≡ slice_index_or other.now place d) }
+    ensures { (d : Answer) → Decides result
+        (slice_index_or one.now place d ≡ slice_index_or other.now place d) }
 {
     same_answer(&one[place], &other[place])
 }
 
 fn same_speeds(one: &[Option<u16>], other: &[Option<u16>], place: usize) -> bool
     requires { (place < length one.now) × (place < length other.now) }
-    ensures { (d : Option ℕ) → Decides result (slice_index_or one.now place d ≡ slice_index_or other.now place d) }
+    ensures { (d : Option ℕ) → Decides result
+        (slice_index_or one.now place d ≡ slice_index_or other.now place d) }
 {
     one[place] == other[place]
 }
@@ -84,7 +89,8 @@ fn same_speeds(one: &[Option<u16>], other: &[Option<u16>], place: usize) -> bool
 #[tactic(auto, using(crate::proofs::Tallying::sampled_at))]
 fn is_sample(one: &[Call<'_>], other: &[Call<'_>], place: usize) -> bool
     requires { (place < length one.now) × (place < length other.now) }
-    ensures { result ≡ slice_index_or (sampled (map said one.now) (map said other.now)) place false }
+    ensures { result ≡ slice_index_or
+        (sampled (map said one.now) (map said other.now)) place false }
 {
     is_cycle(&one[place]) & is_cycle(&other[place])
 }
@@ -112,9 +118,12 @@ fn tally_places(
     other_messages: &[Option<&[u8]>],
 ) -> Tallies
     requires runs { Whole (lists_of one) × Whole (lists_of other) }
-    requires marks { length marks.now ≡ min (length (lists_of one).calls) (length (lists_of other).calls) }
-    requires messages { (length messages.now ≡ length (lists_of one).calls) × (length other_messages.now ≡ length (lists_of other).calls) }
-    ensures { TalliesOf (lists_of one.entry) (lists_of other.entry) marks.now (map words messages.now) (map words other_messages.now) result }
+    requires marks { length marks.now ≡
+        min (length (lists_of one).calls) (length (lists_of other).calls) }
+    requires messages { (length messages.now ≡ length (lists_of one).calls) ×
+        (length other_messages.now ≡ length (lists_of other).calls) }
+    ensures { TalliesOf (lists_of one.entry) (lists_of other.entry) marks.now
+        (map words messages.now) (map words other_messages.now) result }
 {
     let mut speeds = Tally::none();
     let mut answers = Tally::none();
@@ -146,7 +155,8 @@ pub(crate) fn compare_runs<'a>(
     requires { Whole (lists_of one) × Whole (lists_of other) }
     ensures found { IfOk result (λ v. Found (lists_of one.entry) (lists_of other.entry) v) }
     ensures decided { IfOk result (λ v. Decided (lists_of one.entry) (lists_of other.entry) v) }
-    ensures memory { IfErr result (λ _. 0 < length one.entry.calls.now + length other.entry.calls.now) }
+    ensures memory { IfErr result (λ _. 0 <
+        length one.entry.calls.now + length other.entry.calls.now) }
 {
     let messages = top_messages(heap, one.calls, one.answers)?;
     let other_messages = top_messages(heap, other.calls, other.answers)?;

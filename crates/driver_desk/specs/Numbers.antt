@@ -29,10 +29,13 @@ class_number class.Level = 2
 class_number class.Hold = 3
 class_number class.Text = 4
 
--- no button of that number; button not enabled; driver number outside 1 to 99999999; length outside 1 to 4095;
--- percentage outside 10 to 250; speed not a multiple of 5 from 5 to 600; record not taken now;
--- mode or level of an order outside its list; not heard now; that text waits already; twelve texts wait;
--- that text does not wait; it is overdue; in System Failure
+-- 1 and 2 refuse a press: there is no such button, or it is not enabled;
+-- 10 to 13 a draft, for its driver number, length, brake percentage or maximum speed;
+-- 14 a record that is not taken now;
+-- 23 and 30 an order: its mode or level is none of the list, or it is not heard now;
+-- 31 and 32 a text: it waits already, or twelve others do;
+-- 33 and 34 a withdrawal: the text does not wait, or it is overdue;
+-- 40 every call, in System Failure
 abbrev pub refusal_number : Refusal → ℕ
 refusal_number NoSuchButton = 1
 refusal_number ButtonNotEnabled = 2

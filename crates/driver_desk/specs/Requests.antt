@@ -3,9 +3,11 @@ use Rattle.std.specs.Prelude.{ℕ, ◌-◌, Bool, not, ◌&&◌, ◌||◌, List,
 use Rattle.driver_desk.specs.Numbers.{class_number}
 use Rattle.driver_desk.specs.Sorting.{some, tally}
 use Rattle.driver_desk.specs.declared.request.Class.{Class}
+use Rattle.driver_desk.specs.declared.request.TheConstants.{CYCLES_TO_ACKNOWLEDGE}
 use Rattle.driver_desk.specs.declared.request.Request.{Request}
 
--- by raised cycle, then class, then number, smaller first
+-- the request of the earlier cycle comes first; of one cycle that of the lower class, and of one
+-- class that of the lower number
 abbrev pub before : Request → Request → Bool
 before a b =
     nat_lt a.raised b.raised || (a.raised == b.raised &&
@@ -40,9 +42,9 @@ abbrev pub rest_of : List Request → List Request
 rest_of [] = []
 rest_of (r ∷ rs) = rs
 
--- a timed request is overdue when more than 50 cycles have passed since the one in which it was raised
+-- the driver's time to acknowledge a timed request is over
 abbrev pub overdue : ℕ → Request → Bool
-overdue cycle r = r.timed && nat_lt 50 (cycle - r.raised)
+overdue cycle r = r.timed && nat_lt CYCLES_TO_ACKNOWLEDGE (cycle - r.raised)
 
 abbrev pub any_overdue : ℕ → List Request → Bool
 any_overdue cycle l = some (overdue cycle) l

@@ -3,15 +3,19 @@ ghost use Rattle.driver_desk.specs.Numbers.{level_number, listed_level};
 
 use crate::refusal::Refusal;
 
-// The three levels.
+/// The three levels of the unit.
 #[derive(Clone, Copy, PartialEq, Eq, Debug)]
 pub enum Level {
+    /// Level 0.
     Zero = 0,
+    /// Level 1.
     One = 1,
+    /// Level 2.
     Two = 2,
 }
 
 impl Level {
+    /// The level as a number, 0 to 2.
     pub fn number(self) -> u8
         ensures { result ≡ level_number self }
     {
@@ -19,7 +23,7 @@ impl Level {
     }
 }
 
-// A number above 2 is outside the list of levels.
+/// The level with a number; a number above 2 gives `OutsideList` (23).
 impl TryFrom<u8> for Level {
     type Error = Refusal;
 

@@ -1,4 +1,7 @@
-// What passes over the driver's desk: levels, requests, refusals, answers, and the record of the train.
+//! What passes over the driver's desk: levels, requests to the driver, what the unit answers to a
+//! call and why it refuses one, and the record of the train.
+//!
+//! How the unit comes to an answer is not known here.
 #![tactic(auto)]
 
 mod answer;
@@ -10,5 +13,5 @@ mod train_record;
 pub use answer::Answer;
 pub use level::Level;
 pub use refusal::Refusal;
-pub use request::{Class, Request};
+pub use request::{CYCLES_TO_ACKNOWLEDGE, Class, Request};
 pub use train_record::{Confirmed, Draft, TrainRecord};

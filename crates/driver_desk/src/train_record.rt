@@ -1,26 +1,29 @@
-ghost use Rattle.std.specs.Prelude.{◌≡◌, false, is_some, Some, None, MatchResult};
-ghost use Rattle.driver_desk.specs.Records.{record_of, record_refusal};
+ghost use Rattle.std.specs.Prelude.{◌≡◌, false, is_some};
+ghost use Rattle.driver_desk.specs.Records.{record_of, record_refusal, Drafted};
 
 use crate::refusal::Refusal;
 
-// The four numbers of a train: driver number, length in m, brake percentage, maximum speed in km/h.
+/// The four numbers of a train. In a draft and in a confirmed record each is in its range.
 #[derive(Clone, Copy, PartialEq, Eq, Debug)]
 pub struct TrainRecord {
+    /// The driver number, 1 to 99999999.
     pub driver: u32,
+    /// The length of the train in m, 1 to 4095.
     pub length: u16,
+    /// The brake percentage, 10 to 250.
     pub percentage: u8,
+    /// The maximum speed in km/h, 5 to 600 in steps of 5.
     pub speed: u16,
 }
 
-// A record whose numbers are in their ranges, shown to the driver and not yet answered.
+/// A record whose numbers are in their ranges, shown to the driver and not yet answered.
 #[derive(Drop)]
 pub struct Draft {
     train: TrainRecord,
     ghost valid: { is_some (record_refusal train) ≡ false },
 }
 
-// A record that the driver has confirmed.
-// It repeats the draft's field and fact and wraps no draft, so that a clause reads `train` of either one.
+/// A record that the driver has confirmed. No other can be handed to the unit.
 #[derive(Drop)]
 pub struct Confirmed {
     train: TrainRecord,
@@ -28,8 +31,13 @@ pub struct Confirmed {
 }
 
 impl Draft {
+    /// A draft of a driver number (1 to 99999999), a length in m (1 to 4095), a brake percentage
+    /// (10 to 250) and a maximum speed in km/h (5 to 600 in steps of 5).
+    ///
+    /// They are looked at in this order, and the first that is out of its range is the error:
+    /// `DriverNumber` (10), `TrainLength` (11), `BrakePercentage` (12) or `MaximumSpeed` (13).
     pub fn new(driver: u32, length: u32, percentage: u32, speed: u32) -> Result<Draft, Refusal>
-        ensures { MatchResult result (λ d. (d.train ≡ record_of driver length percentage speed) × (record_refusal (record_of driver length percentage speed) ≡ None)) (λ e. record_refusal (record_of driver length percentage speed) ≡ Some e) }
+        ensures { Drafted (λ d. d.train) (record_of driver length percentage speed) result }
     {
         if !(1..=99999999).contains(&driver) {
             return Err(Refusal::DriverNumber);
@@ -52,14 +60,14 @@ impl Draft {
         Ok(Draft { train })
     }
 
-    // The driver confirms.
+    /// The driver says Yes: the draft is used up, and the record is confirmed.
     pub fn yes(self) -> Confirmed
         ensures { result.train ≡ self.train }
     {
         Confirmed { train: self.train }
     }
 
-    // The driver does not confirm, and has the numbers back to change them.
+    /// The driver says No: the draft is used up, and its numbers come back to be changed.
     pub fn no(self) -> TrainRecord
         ensures { result ≡ self.train }
     {
@@ -68,6 +76,7 @@ impl Draft {
 }
 
 impl Confirmed {
+    /// The numbers that the driver confirmed, each in its range.
     pub fn numbers(&self) -> &TrainRecord
         ensures value { result.now ≡ self.now.train }
         ensures valid { is_some (record_refusal result.now) ≡ false }

@@ -1,4 +1,4 @@
--- The order of the lines, and lines by their numbers. Assumes nothing.
+-- The order of the lines, and lines by their numbers.
 use Rattle.std.proofs.Common.{◌≡◌, ◌==◌, ℕ, zero, suc, ◌≤◌, Bool, true, false, not, ltb, List, [], ◌∷◌, length, take, filter, refl, ap, inl, inr, arith}
 use Rattle.std.specs.List.{AllByRecursion}
 use Rattle.std.proofs.ByRecursion.{All-weaker, All-take, all_kept_by, kept_by_passes}

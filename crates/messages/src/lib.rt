@@ -1,4 +1,6 @@
-// What a cab's message window shows over a run of calls.
+//! What a cab's message window shows over a run of calls, told from the calls and their answers
+//! alone. Its contracts also say when two windows show the same behind texts that came in another
+//! order.
 #![tactic(auto)]
 
 mod laws;

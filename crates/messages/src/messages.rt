@@ -16,7 +16,8 @@ use window::line::Line;
 // How many lines a window has.
 pub const ROWS: usize = 12;
 
-// The number of the button Close desk. A press is told by its number, which may be that of no button.
+// The number of the button Close desk. A press is told by its number, which may be that of no
+// button.
 const CLOSE_DESK: u8 = 9;
 
 // A line that nothing shows yet.
@@ -27,7 +28,8 @@ pub const FREE: Line = Line {
     length: 0,
 };
 
-// The window of one cab, and how many cycles were accepted. A line's place is that of the call whose text it shows.
+// The window of one cab, and how many cycles were accepted, up to 4294967295. A line's place is
+// that of the call whose text it shows.
 #[derive(Drop)]
 pub struct Messages<'w> {
     window: Window<'w>,
@@ -50,7 +52,8 @@ impl<'w> Messages<'w> {
 
     // What the call at a place of a run does to the window.
     pub fn show_call(&mut self, call: &Call<'_>, place: usize, answer: &Answer)
-        ensures { (es : List Event) → slice_get es place ≡ Some (said call.now) → view es self.new ≡ after_call (said call.now) answer.now (view es self.old) }
+        ensures { (es : List Event) → slice_get es place ≡ Some (said call.now) → view es self.new ≡
+            after_call (said call.now) answer.now (view es self.old) }
     {
         if answer.outcome.is_some() {
             return;
@@ -78,7 +81,8 @@ impl<'w> Messages<'w> {
 
     // Brings the text of a call in. One of the same number goes, or else the last of a full window.
     fn bring_in(&mut self, number: u8, place: usize, length: usize)
-        ensures { (es : List Event) → view es self.new ≡ with_text number (text_at es place) (view es self.old) }
+        ensures { (es : List Event) → view es self.new ≡
+            with_text number (text_at es place) (view es self.old) }
     {
         self.take_out(number);
         self.make_room();
@@ -94,8 +98,10 @@ impl<'w> Messages<'w> {
     // Where every line is in use, the last of them goes.
     fn make_room(&mut self)
         ensures room { length (lines self.new.window) < 12 }
-        ensures others { (n : ℕ) → has n (lines self.old.window) ≡ false → has n (lines self.new.window) ≡ false }
-        ensures shown { (es : List Event) → view es self.new ≡ showing (making_room (view es self.old).lines) (view es self.old) }
+        ensures others { (n : ℕ) → has n (lines self.old.window) ≡ false →
+            has n (lines self.new.window) ≡ false }
+        ensures shown { (es : List Event) → view es self.new ≡
+            showing (making_room (view es self.old).lines) (view es self.old) }
     {
         if self.window.len() < ROWS {
             return;
@@ -109,7 +115,8 @@ impl<'w> Messages<'w> {
 
     // A text that was acknowledged goes.
     fn end_acknowledged(&mut self, answer: &Answer)
-        ensures { (es : List Event) → view es self.new ≡ with_acknowledged answer.now.acknowledged (view es self.old) }
+        ensures { (es : List Event) → view es self.new ≡
+            with_acknowledged answer.now.acknowledged (view es self.old) }
     {
         if let Some(request) = answer.acknowledged
             && request.class == Class::Text
@@ -121,7 +128,8 @@ impl<'w> Messages<'w> {
     // Takes the line of a number out, if there is one.
     fn take_out(&mut self, number: u8)
         ensures left { lines self.new.window ≡ removed number (lines self.old.window) }
-        ensures shown { (es : List Event) → view es self.new ≡ showing (without number (view es self.old).lines) (view es self.old) }
+        ensures shown { (es : List Event) → view es self.new ≡
+            showing (without number (view es self.old).lines) (view es self.old) }
     {
         let _ = self.window.remove(number);
     }
@@ -137,7 +145,8 @@ impl<'w> Messages<'w> {
 
     // The number of the line that was added last.
     fn front_number(&self) -> Option<u8>
-        ensures { MatchOption result (lines self.now.window ≡ []) (λ n. has n (lines self.now.window) ≡ true) }
+        ensures { MatchOption result (lines self.now.window ≡ [])
+            (λ n. has n (lines self.now.window) ≡ true) }
     {
         self.window.lines().first().map(|line| line.number)
     }

@@ -10,8 +10,9 @@ use std::alloc::{AllocError, Global};
 
 /// The words of the top message of a cab's window after each of its calls.
 ///
-/// Takes the calls of a run and the answer to each, as far as both lists go. Answers, in their order, the words of the
-/// text order that the top line came from, lent from the calls, and none where no line stands.
+/// Takes the calls of a run and the answer to each, as far as both lists go. Answers, for each call
+/// in its order, the bytes of the text on top, lent from the calls, or none where no line stands. A
+/// line without words is told as no bytes.
 ///
 /// # Errors
 ///
@@ -21,7 +22,8 @@ pub fn top_messages<'a>(
     calls: &[Call<'a>],
     answers: &[Answer],
 ) -> Result<Vec<Option<&'a [u8]>>, AllocError>
-    ensures value { IfOk result (λ v. map words v.items ≡ messages_of (map said calls.now) answers.now) }
+    ensures value { IfOk result (λ v. map words v.items ≡
+        messages_of (map said calls.now) answers.now) }
     ensures memory { IfErr result (λ _. (0 < length calls.now) × (0 < length answers.now)) }
 {
     let mut lines = [FREE; ROWS];

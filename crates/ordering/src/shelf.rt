@@ -1,18 +1,24 @@
-// A shelf: records on a slice that its owner lends, so that nothing is allocated; those in use stand before the count.
 ghost use Rattle.std.specs.Prelude.{◌≤◌, length};
 
 use crate::order::{Ordered, first_of};
 
+/// Why a call of a shelf was refused. It has no number; who owns the shelf turns it into its own.
 #[derive(Clone, Copy, PartialEq, Eq, Debug)]
 pub enum ShelfRefusal {
+    /// Every place is in use.
     NoFreePlace,
+    /// No record stands at the position.
     NoSuchPosition,
 }
 
-// A slice and a count: the records lie on memory that the owner lends. No model, since clauses name that run beside the records.
+/// A shelf of records on a slice that its owner lends, so that no memory is taken.
+///
+/// The records stand front to back, counted from position 0. The shelf has as many places as the
+/// slice has records.
 #[derive(Drop)]
 pub struct Shelf<'a, T> {
     run: &'a mut [T],
+    // How many of the run are records of the shelf; those behind them may be anything.
     count: usize,
     ghost within: { count ≤ length run.now },
 }
@@ -22,6 +28,7 @@ impl<'a, T: Copy> Shelf<'a, T> {
     ghost use Rattle.ordering.specs.Order.{chosen, Apart, NoneBefore, Leads};
     ghost use Rattle.ordering.specs.Shelf.{items, places, SameRun, PutFront, TakenOut};
 
+    /// An empty shelf on this slice, of any length.
     pub fn new(run: &'a mut [T]) -> Shelf<'a, T>
         ensures empty { items result ≡ [] }
         ensures room { places result ≡ length run.old }
@@ -30,24 +37,30 @@ impl<'a, T: Copy> Shelf<'a, T> {
         Shelf { run, count: 0 }
     }
 
+    /// How many records stand on the shelf.
     pub fn len(&self) -> usize
         ensures { result ≡ length (items self.now) }
     {
         self.live().len()
     }
 
+    /// How many records the shelf has room for.
     pub fn places(&self) -> usize
         ensures { result ≡ places self.now }
     {
         self.run.len()
     }
 
+    /// The records of the shelf, front to back.
     pub fn live(&self) -> &[T]
         ensures { result.now ≡ items self.now }
     {
         &self.run[..self.count]
     }
 
+    /// Puts a record in front of the others, which all move one place back.
+    ///
+    /// `NoFreePlace` where every place is in use; the shelf is then as before.
     pub fn put_front(&mut self, x: T) -> Result<(), ShelfRefusal>
         ensures same_run { SameRun self.old self.new }
         ensures cases { PutFront self.old self.new x result }
@@ -62,6 +75,10 @@ impl<'a, T: Copy> Shelf<'a, T> {
         Ok(())
     }
 
+    /// Takes out the record at a position, counted from 0, and answers it. The others keep their
+    /// order.
+    ///
+    /// `NoSuchPosition` where no record stands there; the shelf is then as before.
     pub fn take_out(&mut self, position: usize) -> Result<T, ShelfRefusal>
         ensures same_run { SameRun self.old self.new }
         ensures cases { TakenOut self.old self.new position result }
@@ -75,6 +92,8 @@ impl<'a, T: Copy> Shelf<'a, T> {
         Ok(x)
     }
 
+    /// The position of the first record by their order, as `first_of` finds it, or none where the
+    /// shelf is empty.
     pub fn first(&self) -> Option<usize>
     where
         T: Ordered,

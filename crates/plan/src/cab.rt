@@ -4,9 +4,9 @@ ghost use Rattle.plan.specs.Calls.{block_for, cab_name};
 /// One of the two cabs of a train: that with the bus end, or that with the pulse end.
 #[derive(Clone, Copy, PartialEq, Eq)]
 pub enum Cab {
-    /// The end fed by the vehicle bus.
+    /// The cab whose end is fed by the vehicle bus, with 2 bytes a cycle.
     Bus,
-    /// The end fed by pulses.
+    /// The cab whose end is fed by wheel pulses, with 4 bytes a cycle.
     Pulse,
 }
 

@@ -1,4 +1,5 @@
-//! What a call list asks of a cab: the calls that each cab gets, the rows that tell of them, and what else the rows tell.
+//! What a call list asks of a cab: the calls that each of the two cabs gets, and the rows that tell
+//! of them and of what is no call, that is refused records and how the reading of a telegram ended.
 #![tactic(auto)]
 
 mod cab;

@@ -15,25 +15,29 @@ use driver_desk::Draft;
 use std::alloc::{AllocError, Global};
 use telegram::{Reading, read_all};
 
-/// The calls of one cab, and the rows that tell of them and of what is no call; a row of a call takes the next one.
-/// The calls stand by themselves, since a run takes them as a slice.
+/// What one cab gets of a call list, and what is told of it.
 #[derive(Drop)]
 pub struct Plan<'a> {
+    /// The calls, in the order in which the cab is to make them.
     pub calls: Vec<Call<'a>>,
+    /// The rows, in the order of the list. Each row of a call tells of the next one of `calls`.
     pub rows: Vec<Row>,
 }
 
 /// What is asked of both cabs.
 #[derive(Drop)]
 pub struct Plans<'a> {
+    /// What the bus cab gets.
     pub bus: Plan<'a>,
+    /// What the pulse cab gets.
     pub pulse: Plan<'a>,
 }
 
 impl<'a> Plan<'a> {
     fn add_row(&mut self, line: usize, told: Told) -> Result<(), AllocError>
         ensures calls { self.new.calls.items ≡ self.old.calls.items }
-        ensures rows { OnOk result (self.new.rows.items ≡ self.old.rows.items ++ (at_line line told ∷ [])) }
+        ensures rows { OnOk result (self.new.rows.items ≡
+            self.old.rows.items ++ (at_line line told ∷ [])) }
     {
         self.rows.push(Row { line, told })?;
         Ok(())
@@ -45,8 +49,10 @@ impl<'a> Plan<'a> {
         call: Call<'a>,
         places: Option<Places>,
     ) -> Result<(), AllocError>
-        ensures calls { OnOk result (planned self.new ≡ planned self.old ++ (said call.entry ∷ [])) }
-        ensures rows { OnOk result (self.new.rows.items ≡ self.old.rows.items ++ (at_line line (tells.Call places) ∷ [])) }
+        ensures calls { OnOk result (planned self.new ≡
+            planned self.old ++ (said call.entry ∷ [])) }
+        ensures rows { OnOk result (self.new.rows.items ≡
+            self.old.rows.items ++ (at_line line (tells.Call places) ∷ [])) }
     {
         self.calls.push(call)?;
         self.add_row(line, Told::Call(places))
@@ -54,8 +60,10 @@ impl<'a> Plan<'a> {
 
     // The orders of a telegram are calls, up to its end or its first fault.
     fn add_reading(&mut self, line: usize, reading: &Reading<'a>) -> Result<(), AllocError>
-        ensures calls { OnOk result (planned self.new ≡ planned self.old ++ telegram_calls (whole_of reading.now)) }
-        ensures rows { OnOk result (self.new.rows.items ≡ self.old.rows.items ++ map (at_line line) (telegram_rows (whole_of reading.now))) }
+        ensures calls { OnOk result (planned self.new ≡
+            planned self.old ++ telegram_calls (whole_of reading.now)) }
+        ensures rows { OnOk result (self.new.rows.items ≡
+            self.old.rows.items ++ map (at_line line) (telegram_rows (whole_of reading.now))) }
     {
         for placed in &reading.orders {
             let places = Places {
@@ -68,8 +76,10 @@ impl<'a> Plan<'a> {
     }
 
     fn add_entry(&mut self, heap: Global, cab: Cab, listed: &'a Listed) -> Result<(), AllocError>
-        ensures calls { OnOk result (planned self.new ≡ planned self.old ++ entry_calls cab listed.now.entry) }
-        ensures rows { OnOk result (self.new.rows.items ≡ self.old.rows.items ++ line_rows listed.now) }
+        ensures calls { OnOk result (planned self.new ≡
+            planned self.old ++ entry_calls cab listed.now.entry) }
+        ensures rows { OnOk result (self.new.rows.items ≡
+            self.old.rows.items ++ line_rows listed.now) }
     {
         let line = listed.line;
         match &listed.entry {
@@ -98,9 +108,10 @@ impl<'a> Plan<'a> {
 
 /// What a call list asks of a cab. The calls borrow their bytes from the list.
 ///
-/// A cycle gives its own block of each cab, a telegram its orders up to the end or the first fault, a press its button,
-/// a record its taking where no number of it is refused, and an order from no telegram that order.
-/// Memory is wanting only where the list has a line; the list is then as before.
+/// A cycle gives this cab's own block, a telegram its orders up to the end or the first fault, a
+/// press its button, a record its taking where no draft refuses its numbers, and an order itself.
+///
+/// Want of memory is the only error, and comes only where the list has a line.
 pub fn plan_list<'a>(heap: Global, cab: Cab, listed: &'a [Listed]) -> Result<Plan<'a>, AllocError>
     ensures calls { IfOk result (λ p. planned p ≡ calls_for cab listed.now) }
     ensures rows { IfOk result (λ p. p.rows.items ≡ rows_for listed.now) }
@@ -116,9 +127,10 @@ pub fn plan_list<'a>(heap: Global, cab: Cab, listed: &'a [Listed]) -> Result<Pla
     Ok(plan)
 }
 
-/// What is asked of both cabs: the bus cab gets the list, and the pulse cab the second list where there is one, else the same.
+/// What is asked of both cabs: the bus cab gets the list, and the pulse cab the second list where
+/// there is one, else the same list. Each cab gets its own block of a cycle.
 ///
-/// Memory is wanting only where one of the lists has a line; the lists are then as before.
+/// Want of memory is the only error, and comes only where one of the lists has a line.
 pub fn plan_lists<'a>(
     heap: Global,
     listed: &'a [Listed],
@@ -126,9 +138,12 @@ pub fn plan_lists<'a>(
 ) -> Result<Plans<'a>, AllocError>
     ensures bus_calls { IfOk result (λ p. planned p.bus ≡ calls_for Bus listed.now) }
     ensures bus_rows { IfOk result (λ p. p.bus.rows.items ≡ rows_for listed.now) }
-    ensures pulse_calls { IfOk result (λ p. planned p.pulse ≡ calls_for Pulse (list_or listed.now second.entry)) }
-    ensures pulse_rows { IfOk result (λ p. p.pulse.rows.items ≡ rows_for (list_or listed.now second.entry)) }
-    ensures memory { IfErr result (λ _. 0 < length listed.now + length (list_or listed.now second.entry)) }
+    ensures pulse_calls { IfOk result
+        (λ p. planned p.pulse ≡ calls_for Pulse (list_or listed.now second.entry)) }
+    ensures pulse_rows { IfOk result
+        (λ p. p.pulse.rows.items ≡ rows_for (list_or listed.now second.entry)) }
+    ensures memory { IfErr result (λ _. 0 <
+        length listed.now + length (list_or listed.now second.entry)) }
 {
     let bus = plan_list(heap, Cab::Bus, listed)?;
     let pulse = plan_list(heap, Cab::Pulse, second.unwrap_or(listed))?;

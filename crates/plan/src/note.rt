@@ -4,17 +4,18 @@ ghost use Rattle.plan.specs.Notes.{note_name, note_number};
 use driver_desk::Refusal;
 use telegram::Refused;
 
-/// What a list tells that is no call of the unit: a draft that was refused, or how the reading of a telegram ended.
+/// What a list tells that is no call of the unit.
 #[derive(Clone, Copy, PartialEq, Eq)]
 pub enum Note {
-    /// Numbers of a train of which no draft is made, with the reason.
+    /// The four numbers of a record that no draft takes, with the refusal, 10 to 13.
     Draft(Refusal),
-    /// The end of a telegram with the place behind its last byte, or the order that is refused.
+    /// How the reading of a telegram ended: at its end, with its length in bytes, or at the first
+    /// order that is refused.
     Reading(Result<usize, Refused>),
 }
 
 impl Note {
-    /// The word that a row has in the place of a call: `draft`, `fault` or `end`.
+    /// The word that a row has where another has its call: `draft`, `fault` or `end`.
     pub fn name(self) -> &'static str
         ensures { result.now ≡ note_name self }
     {

@@ -37,18 +37,22 @@ fn next_mark(marks: &[bool]) -> (bool, &[bool])
     }
 }
 
-/// What is compared of the rows of a cab beside its calls: a bound, `None`, in front of each call, and between the bounds,
-/// by its number, what was refused there. The end of a telegram gives nothing.
+/// What is compared of the rows of a cab beside its calls: a bound, `None`, in front of each call,
+/// and between the bounds, by its number, what was refused there. The end of a telegram gives
+/// nothing.
 ///
-/// `inside` has a mark for each call, `true` where the next call goes on in the same stretch; where it ends, the marks are `false`.
-/// Behind such a call there is no bound: a stretch has one in front, and what stands between its calls counts as standing behind them.
-/// Memory is wanting only where there is a row.
+/// `inside` has a mark for each call, `true` where the next call goes on in the same stretch of
+/// texts in another order; a call without a mark counts as `false`. Behind a `true` there is no
+/// bound, so what stands between the calls of a stretch counts as standing behind them.
+///
+/// Want of memory is the only error, and comes only where there is a row.
 pub fn note_trace(
     heap: Global,
     rows: &[Row],
     inside: &[bool],
 ) -> Result<Vec<Option<u8>>, AllocError>
-    ensures trace { IfOk result (λ v. v.items ≡ note_trace false inside.now (map (λ r. r.told) rows.now)) }
+    ensures trace { IfOk result (λ v. v.items ≡
+        note_trace false inside.now (map (λ r. r.told) rows.now)) }
     ensures memory { IfErr result (λ _. 0 < length rows.now) }
 {
     let mut trace = Vec::new(heap);

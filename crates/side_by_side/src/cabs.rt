@@ -13,10 +13,14 @@ use plan::Plans;
 use std::alloc::{AllocError, Global};
 use train_end::TrainEnd;
 
-/// Both cabs after their runs, and what is found of these; the want of memory for that leaves the runs.
+/// Both cabs after their runs, and what is found of these. The caller switches the units off.
 pub struct BothCabs<'p, 'a, E, F> {
+    /// The bus cab after its run.
     pub bus: Ran<'p, 'a, E>,
+    /// The pulse cab after its run.
     pub pulse: Ran<'p, 'a, F>,
+    /// What is found of both. Want of memory for it is the only error, comes only where a plan has
+    /// a call or a row, and leaves the runs as they are.
     pub finding: Result<Finding<'a>, AllocError>,
 }
 
@@ -27,8 +31,11 @@ fn find<'a>(
     verdict: Result<Verdict<'a>, AllocError>,
 ) -> Result<Finding<'a>, AllocError>
     ensures verdict { IfOk result (λ f. verdict.entry ≡ Ok f.verdict) }
-    ensures notes { IfOk result (λ f. Decides f.notes_agree (notes_of (vec_items f.verdict.marks) (rows_of plans.now) ≡ notes_of (vec_items f.verdict.marks) (other_rows_of plans.now))) }
-    ensures memory { IfErr result (λ _. IfOk verdict.entry (λ v. 0 < length (vec_items v.marks) + rows_planned plans.now)) }
+    ensures notes { IfOk result (λ f. Decides f.notes_agree
+        (notes_of (vec_items f.verdict.marks) (rows_of plans.now) ≡
+        notes_of (vec_items f.verdict.marks) (other_rows_of plans.now))) }
+    ensures memory { IfErr result (λ _. IfOk verdict.entry
+        (λ v. 0 < length (vec_items v.marks) + rows_planned plans.now)) }
 {
     let verdict = verdict?;
     let notes_agree = notes_agree(heap, &verdict.marks, &plans.bus.rows, &plans.pulse.rows)?;
@@ -39,8 +46,11 @@ fn find<'a>(
 }
 
 impl<'p, 'a, E: TrainEnd + Drop, F: TrainEnd + Drop> ReadyCabs<'p, 'a, E, F> {
-    /// Both cabs with what is asked of them, on these ends, with the places that they want.
-    /// Where memory is wanting, the ends come back.
+    /// Both cabs with what their plans ask of them, on these ends, and with all places for answers
+    /// and speeds.
+    ///
+    /// Want of memory is the only error. It gives both ends back as they were, and comes only where
+    /// a plan has a call.
     pub fn new(
         heap: Global,
         plans: &'p Plans<'a>,
@@ -62,15 +72,21 @@ impl<'p, 'a, E: TrainEnd + Drop, F: TrainEnd + Drop> ReadyCabs<'p, 'a, E, F> {
         }
     }
 
-    /// Runs both cabs and compares what they were asked, what they answered, and what they show.
-    /// The caller switches the units off.
+    /// Runs both cabs and compares what they were asked, what they answered and what they show.
+    /// This always runs; want of memory stands in the place of the finding.
     pub fn run(self, heap: Global) -> BothCabs<'p, 'a, E, F>
-        ensures planned { Planned (plans_of self.entry) (ran E.TrainEnd F.TrainEnd self.entry result) }
+        ensures planned { Planned (plans_of self.entry)
+            (ran E.TrainEnd F.TrainEnd self.entry result) }
         ensures laws { Laws (ran E.TrainEnd F.TrainEnd self.entry result) }
-        ensures on { ShownOn (ran E.TrainEnd F.TrainEnd self.entry result) result.bus.on result.pulse.on }
-        ensures finding { IfOk result.finding (λ f. FindingOf (ran E.TrainEnd F.TrainEnd self.entry result) (rows_of (plans_of self.entry)) (other_rows_of (plans_of self.entry)) f) }
-        ensures memory { IfErr result.finding (λ _. 0 < calls_planned (plans_of self.entry) + rows_planned (plans_of self.entry)) }
-        ensures one_list { OneListAgrees (plans_of self.entry) (ran E.TrainEnd F.TrainEnd self.entry result) result }
+        ensures on { ShownOn (ran E.TrainEnd F.TrainEnd self.entry result) result.bus.on
+            result.pulse.on }
+        ensures finding { IfOk result.finding
+            (λ f. FindingOf (ran E.TrainEnd F.TrainEnd self.entry result)
+            (rows_of (plans_of self.entry)) (other_rows_of (plans_of self.entry)) f) }
+        ensures memory { IfErr result.finding
+            (λ _. 0 < calls_planned (plans_of self.entry) + rows_planned (plans_of self.entry)) }
+        ensures one_list { OneListAgrees (plans_of self.entry)
+            (ran E.TrainEnd F.TrainEnd self.entry result) result }
     {
         let ReadyCabs { plans, bus, pulse } = self;
         let Ok(
@@ -93,8 +109,8 @@ impl<'p, 'a, E: TrainEnd + Drop, F: TrainEnd + Drop> ReadyCabs<'p, 'a, E, F> {
 }
 
 impl<E, F> BothCabs<'_, '_, E, F> {
-    /// The status of the runs: `Trouble` where neither cab was asked for a call or nothing could be found for want of
-    /// memory, `Agree` where the lists are alike and nothing that is compared differs, and else `Differ`.
+    /// The status of the runs: `Trouble` where neither cab answered a call or memory for the
+    /// finding was wanting, `Agree` where the finding agrees, and else `Differ`.
     pub fn status(&self) -> Status
         ensures { result ≡ status_of self.now }
     {

@@ -6,16 +6,19 @@ use compare::{Mark, Verdict};
 use plan::{Row, note_trace};
 use std::alloc::{AllocError, Global};
 
-/// What is found of two cabs: the verdict on their runs, and whether what the lists tell beside the calls agrees, that is
-/// the faults of telegrams and the records that were refused, by their refusal numbers.
+/// What is found of two cabs.
 #[derive(Drop)]
 pub struct Finding<'a> {
+    /// The verdict on both runs.
     pub verdict: Verdict<'a>,
+    /// Whether both lists tell the same beside their calls: the faults of telegrams and the records
+    /// that no draft takes, by their refusal numbers.
     pub notes_agree: bool,
 }
 
 impl Finding<'_> {
-    /// Whether the lists are alike and nothing that is compared differs.
+    /// Whether the lists are alike and no answer, message or note that is compared differs. Speeds
+    /// do not count here.
     pub fn agrees(&self) -> bool
         ensures { result ≡ agrees self.now }
     {
@@ -51,8 +54,10 @@ pub(crate) fn notes_agree(
     rows: &[Row],
     other_rows: &[Row],
 ) -> Result<bool, AllocError>
-    ensures agree { IfOk result (λ b. Decides b (notes_of marks.now rows.now ≡ notes_of marks.now other_rows.now)) }
-    ensures memory { IfErr result (λ _. 0 < length marks.now + length rows.now + length other_rows.now) }
+    ensures agree { IfOk result (λ b. Decides b
+        (notes_of marks.now rows.now ≡ notes_of marks.now other_rows.now)) }
+    ensures memory { IfErr result (λ _. 0 <
+        length marks.now + length rows.now + length other_rows.now) }
 {
     let inside = inside_marks(heap, marks)?;
     let notes = note_trace(heap, rows, &inside)?;

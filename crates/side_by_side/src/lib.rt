@@ -1,4 +1,5 @@
-//! Two cabs laid side by side: what call lists ask of them is run and compared, and the verdict has its status.
+//! Two cabs laid side by side: what call lists ask of a bus cab and a pulse cab is run and compared
+//! in one call, and what is found has a status.
 #![tactic(auto)]
 
 mod cabs;

@@ -4,7 +4,8 @@ ghost use Rattle.bench.specs.View.{has_room};
 use bench::Ready;
 use plan::Plans;
 
-/// Both cabs before their runs: what is asked of them, their ends, and the places for what they answer.
+/// Both cabs before their runs: what is asked of them, their ends, and places enough for all
+/// answers and speeds.
 pub struct ReadyCabs<'p, 'a, E, F> {
     pub(crate) plans: &'p Plans<'a>,
     pub(crate) bus: Ready<'p, 'a, E>,

@@ -49,7 +49,8 @@ read_fields EmergencyStop bs = Ok stop
 read_fields Sign bs = Ok sign
 read_fields Permission bs = Ok permission
 
--- An answer of the reader: an order with its first byte and the byte after it; the end; a refusal with the order's first byte.
+-- One answer of the reader. Of an order it tells where its bytes begin and which place is behind
+-- them, of the end its place, and of a refusal where the faulty order begins.
 pub data ReadValue : Type 0 where
   order : OrderValue → ℕ → ℕ → ReadValue
   end : ℕ → ReadValue

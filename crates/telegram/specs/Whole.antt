@@ -7,7 +7,8 @@ use Rattle.telegram.specs.declared.faults.Refused.{Refused}
 use Rattle.telegram.specs.declared.orders.Placed.{Placed}
 use Rattle.telegram.specs.declared.whole.Reading.{Reading}
 
--- An order with its first byte and the byte after it.
+-- An order, and the stretch of its bytes: from the place `first` up to the place `after`, which is
+-- the first behind it.
 pub record PlacedValue : Type 0 where
   pub what : OrderValue
   pub first : ℕ

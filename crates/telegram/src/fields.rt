@@ -42,7 +42,8 @@ fn sayable(text: &[u8]) -> bool
 }
 
 fn read_text(fields: &[u8]) -> Result<Order<'_>, Fault>
-    ensures { saying value_of result ≡ text_fields (slice_index fields.now 0) (slice_index fields.now 1) (drop 2 fields.now) }
+    ensures { saying value_of result ≡
+        text_fields (slice_index fields.now 0) (slice_index fields.now 1) (drop 2 fields.now) }
 {
     let wanted = match byte_at(fields, 1) {
         0x00 => false,

@@ -1,4 +1,8 @@
-// Telegrams: reads the orders in a byte string, one after another, and says where each stands or why one is refused.
+//! Telegrams: the orders that the line side sends to the train, as a string of bytes.
+//!
+//! The crate reads the orders one after another, and says where each stands or why one is refused.
+//! The ten modes are here too, since orders name them. What an order makes the unit do is not known
+//! here.
 #![tactic(auto)]
 
 mod examples;

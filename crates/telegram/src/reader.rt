@@ -7,7 +7,7 @@ use crate::fields::{read_fields, rest};
 use crate::kinds::Kind;
 use crate::orders::Placed;
 
-// A telegram, read from its start, and the place of the next byte to read.
+/// Reads a telegram from its start, an order at a time. It takes no memory.
 #[derive(Drop)]
 pub struct Reader<'a> {
     telegram: &'a [u8],
@@ -15,6 +15,7 @@ pub struct Reader<'a> {
 }
 
 impl<'a> Reader<'a> {
+    /// A reader in front of the first byte. The telegram may have any length, also none.
     pub fn new(telegram: &'a [u8]) -> Reader<'a>
         ensures telegram { result.telegram ≡ telegram.entry }
         ensures place { result.place ≡ 0 }
@@ -22,19 +23,25 @@ impl<'a> Reader<'a> {
         Reader { telegram, place: 0 }
     }
 
+    /// The place of the byte that it reads next, counted from 0; at the end, the telegram's length.
     pub fn place(&self) -> usize
         ensures { result ≡ self.now.place }
     {
         self.place
     }
 
-    // Reads one order and goes on to the byte after it; at the end the answer is `None`, and the reader stands there.
-    // The end and a fault are answered again at each further call. So this is no Iterator: it would give the fault for ever.
+    /// Reads the next order and stands behind it; `None` where no byte is left.
+    ///
+    /// Where the order is faulty, the answer is why, with its place, and the reader stays in front
+    /// of it. So the end and a fault are answered again at each further call.
     pub fn next(&mut self) -> Result<Option<Placed<'a>>, Refused>
-        ensures answer { answer_of self.new.place result ≡ read_at self.old.telegram.now self.old.place }
-        ensures place { self.new.place ≡ place_after self.old.place (answer_of self.new.place result) }
+        ensures answer { answer_of self.new.place result ≡
+            read_at self.old.telegram.now self.old.place }
+        ensures place { self.new.place ≡
+            place_after self.old.place (answer_of self.new.place result) }
         ensures telegram { self.new.telegram ≡ self.old.telegram }
-        ensures law { ReadWhereItStands self.old.telegram.now self.old.place (answer_of self.new.place result) }
+        ensures law { ReadWhereItStands self.old.telegram.now self.old.place
+            (answer_of self.new.place result) }
     {
         let first = self.place;
         let read = read_at(self.telegram, first).map_err(|fault| Refused { fault, first })?;

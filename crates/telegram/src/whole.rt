@@ -6,14 +6,21 @@ use crate::orders::Placed;
 use crate::reader::Reader;
 use std::alloc::{AllocError, Global};
 
-// All that was read of a telegram: the orders, then the place of its end or the order that is refused.
+/// What was read of a whole telegram.
 #[derive(Drop)]
 pub struct Reading<'a> {
+    /// The orders, as they follow one another in the telegram.
     pub orders: Vec<Placed<'a>>,
+    /// The telegram's length where it was read to its end, or the order that is refused; nothing
+    /// behind that order is read.
     pub ending: Result<usize, Refused>,
 }
 
-// Reads a telegram to its end or to the first fault.
+/// Reads a telegram of any length, to its end or to its first faulty order. The list of orders
+/// takes its memory from `heap`.
+///
+/// `AllocError` where memory for the orders is wanting, and only where the telegram begins with an
+/// order.
 pub fn read_all<'a>(heap: Global, telegram: &'a [u8]) -> Result<Reading<'a>, AllocError>
     ensures value { IfOk result (λ g. whole_of g ≡ read_whole telegram.now) }
     ensures law { IfOk result (λ g. WholeTelegram telegram.now (whole_of g)) }

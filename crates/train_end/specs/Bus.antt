@@ -1,4 +1,5 @@
--- What the bus end reads in a block: valid 1 bit, five zero bits, speed 10 bits, most significant bit first.
+-- What the bus end reads in a block of two bytes. The highest bit says that the speed is valid, the
+-- five below it are filler, and the ten lowest are the speed in km/h.
 use Rattle.std.specs.Prelude.{◌≡◌, ℕ, ◌+◌, ◌*◌, ◌/◌, ◌%◌, ◌<◌, ◌≤◌, cond, ◌&&◌, List, [], ◌∷◌, Some, None, Option, ◌==◌, nat_le}
 
 -- the three fields of the two bytes

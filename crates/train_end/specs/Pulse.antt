@@ -1,4 +1,5 @@
--- What the pulse end reads in a block: two 16-bit pulse counts, high byte first, one from each axle.
+-- What the pulse end reads in a block of four bytes. The first two count the pulses of one axle and
+-- the last two those of the other, the high byte of each count in front.
 use Rattle.std.specs.Prelude.{◌≡◌, ℕ, ◌+◌, ◌-◌, ◌*◌, ◌/◌, ◌<◌, ◌≤◌, min, max, cond, List, [], ◌∷◌, Some, None, Option, option_and_then, is_some, nat_le}
 
 abbrev pub larger_of : ℕ → ℕ → Option ℕ

@@ -1,4 +1,4 @@
--- A speed is unknown, or 0 to 600 whole km/h.
+-- Which speeds there are: an unknown one, and every whole number of km/h up to 600.
 use Rattle.std.specs.Prelude.{◌≡◌, ℕ, Bool, true, false, Some, None, Option, nat_le}
 
 abbrev pub in_range : Option ℕ → Bool

@@ -6,7 +6,7 @@ ghost use Rattle.train_end.specs.Speed.{in_range, RangeEdges};
 use crate::brake_line::BrakeLine;
 use crate::end::TrainEnd;
 
-// The end fed by the vehicle bus.
+/// The end fed by the vehicle bus, in blocks of 2 bytes.
 #[derive(Drop)]
 pub struct BusEnd {
     speed: Option<u16>,
@@ -25,7 +25,7 @@ fn fields(high: u8, low: u8) -> Option<u16>
 }
 
 impl BusEnd {
-    // Speed unknown, line at emergency.
+    /// A new end: its speed is unknown, and its line is at emergency.
     pub fn new() -> BusEnd
         ensures speed { result.speed ≡ None }
         ensures line { result.line ≡ Emergency }
@@ -36,7 +36,10 @@ impl BusEnd {
         }
     }
 
-    // The speed that a block means: valid 1 bit, five zero bits, speed 10 bits.
+    /// The speed in km/h, 0 to 600, that a block means to a bus end, or none for unknown.
+    ///
+    /// The block is 2 bytes: a valid bit that is set, 5 filler bits that are clear, and 10 bits of
+    /// speed. Where it is anything else, or the speed is above 600, the answer is none.
     #[tactic(auto, using(crate::proofs::Blocks::every_speed_has_a_block))]
     pub fn read(block: &[u8]) -> Option<u16>
         ensures value { result ≡ bus_reading block.now }

@@ -1,4 +1,8 @@
-// A train end gives the speed and holds the brake line; here are the trait and two makes of it.
+//! A train end is one desk's source of speed and its hold on the brake line.
+//!
+//! The crate says what every make of train end owes the unit above it, and has two makes: one that
+//! is fed by the vehicle bus, and one that is fed by wheel pulses. It knows nothing of modes,
+//! orders or buttons.
 #![tactic(auto)]
 
 mod brake_line;

@@ -7,7 +7,7 @@ ghost use Rattle.train_end.specs.Speed.{in_range};
 use crate::brake_line::BrakeLine;
 use crate::end::TrainEnd;
 
-// The end fed by wheel pulses, whose brake line is held by two relays.
+/// The end fed by wheel pulses, in blocks of 4 bytes. Two relays hold its brake line.
 #[derive(Drop)]
 pub struct PulseEnd {
     speed: Option<u16>,
@@ -44,7 +44,7 @@ fn speed_of(p: u16) -> Option<u16>
 }
 
 impl PulseEnd {
-    // Speed unknown, line at emergency: both relays off.
+    /// A new end: its speed is unknown, and its line is at emergency, with both relays off.
     #[tactic(auto, using(crate::proofs::Relays::fails_safe))]
     pub fn new() -> PulseEnd
         ensures speed { result.speed ≡ None }
@@ -59,7 +59,11 @@ impl PulseEnd {
         }
     }
 
-    // The speed that a block means: the two axles' counts, compared and reduced to the larger.
+    /// The speed in km/h, 0 to 600, that a block means to a pulse end, or none for unknown.
+    ///
+    /// The block is 4 bytes, a count of pulses for each of two axles. The larger count tells the
+    /// speed: 27/25 of it, rounded up. The answer is none where the block has another length, where
+    /// the counts differ by more than 3, or where the larger is above 555.
     #[tactic(auto, using(crate::proofs::Counts::axles_alike))]
     pub fn read(block: &[u8]) -> Option<u16>
         ensures value { result ≡ pulse_reading block.now }

@@ -1,14 +1,15 @@
-use driver_desk::{Class, Draft, Level, Refusal, Request, TrainRecord};
+use crate::checks::{check, check_words};
+use crate::units::TRAIN;
+use driver_desk::{Class, Draft, Level, Refusal, Request};
 use ordering::order::Ordered;
-use std::test::Fail;
 
 #[test]
-fn levels_and_classes_have_numbers(rt: HostRuntime) {
+fn levels_classes_and_refusals_have_numbers(rt: HostRuntime) {
     for &(level, number) in &[(Level::Zero, 0), (Level::One, 1), (Level::Two, 2)] {
-        assert_eq!(rt; level.number(), number);
-        assert_eq!(rt; Level::try_from(number), Ok(level));
+        check(&rt, "level", level.number(), number);
+        check(&rt, "number", Level::try_from(number), Ok(level));
     }
-    assert_eq!(rt; Level::try_from(3), Err(Refusal::OutsideList));
+    check(&rt, "3", Level::try_from(3), Err(Refusal::OutsideList));
     for &(class, number) in &[
         (Class::Trip, 0),
         (Class::Mode, 1),
@@ -16,12 +17,8 @@ fn levels_and_classes_have_numbers(rt: HostRuntime) {
         (Class::Hold, 3),
         (Class::Text, 4),
     ] {
-        assert_eq!(rt; class.number(), number);
+        check(&rt, "class", class.number(), number);
     }
-}
-
-#[test]
-fn refusals_have_numbers(rt: HostRuntime) {
     for &(refusal, number) in &[
         (Refusal::NoSuchButton, 1),
         (Refusal::ButtonNotEnabled, 2),
@@ -38,11 +35,15 @@ fn refusals_have_numbers(rt: HostRuntime) {
         (Refusal::TextOverdue, 34),
         (Refusal::InSystemFailure, 40),
     ] {
-        assert_eq!(rt; refusal.number(), number);
+        check(&rt, "refusal", refusal.number(), number);
     }
 }
 
-fn request(class: Class, number: u8, raised: u32, timed: bool) -> Request {
+// Of a request: class, number, since which cycle, and whether it is timed.
+type Asked = (Class, u8, u32, bool);
+
+fn request(asked: &Asked) -> Request {
+    let (class, number, raised, timed) = *asked;
     Request {
         class,
         number,
@@ -52,57 +53,44 @@ fn request(class: Class, number: u8, raised: u32, timed: bool) -> Request {
 }
 
 // The cycle decides, then the class, then the number, each the smaller first; the mark says nothing.
+const IN_ORDER: &[Asked] = &[
+    (Class::Text, 255, 6, true),
+    (Class::Trip, 0, 7, false),
+    (Class::Mode, 6, 7, true),
+    (Class::Level, 0, 7, true),
+    (Class::Hold, 0, 7, false),
+    (Class::Text, 4, 7, true),
+    (Class::Text, 9, 7, false),
+];
+
+const WRITTEN: &[(Asked, &str)] = &[
+    ((Class::Mode, 3, 2, true), "1:3@2t"),
+    ((Class::Hold, 0, 4294967295, false), "3:0@4294967295u"),
+];
+
 #[test]
-fn requests_stand_in_order(rt: HostRuntime) {
-    let order = [
-        request(Class::Text, 255, 6, true),
-        request(Class::Trip, 0, 7, false),
-        request(Class::Mode, 6, 7, true),
-        request(Class::Level, 0, 7, true),
-        request(Class::Hold, 0, 7, false),
-        request(Class::Text, 4, 7, true),
-        request(Class::Text, 9, 7, false),
-    ];
-    for (i, one) in order.iter().enumerate() {
-        for (k, other) in order.iter().enumerate() {
-            assert_eq!(rt; one.is_before(other), i < k);
+fn requests_stand_in_order_and_are_written(rt: HostRuntime) {
+    for (i, one) in IN_ORDER.iter().enumerate() {
+        for (k, other) in IN_ORDER.iter().enumerate() {
+            let is_before = request(one).is_before(&request(other));
+            check(&rt, "places, is before", (i, k, is_before), (i, k, i < k));
         }
     }
-}
-
-#[test]
-fn requests_are_written(rt: HostRuntime) -> Result<(), Fail> {
-    for &(asked, words) in &[
-        (request(Class::Mode, 3, 2, true), "1:3@2t"),
-        (
-            request(Class::Hold, 0, 4294967295, false),
-            "3:0@4294967295u",
-        ),
-    ] {
-        assert_eq!(rt; format!(in rt.alloc(); "{asked}")?.as_str(), words);
+    for (asked, words) in WRITTEN {
+        check_words(&rt, rt.alloc(), &request(asked), words);
     }
-    Ok(())
 }
 
-// No gives the four numbers back, and after Yes they are the record's.
+// A No leaves the numbers as they were entered; a Yes leaves them in the record.
 #[test]
-fn drafts_keep_their_numbers(rt: HostRuntime) -> Result<(), Fail> {
-    let train = TrainRecord {
-        driver: 12345678,
-        length: 400,
-        percentage: 120,
-        speed: 160,
-    };
+fn drafts_keep_their_numbers(rt: HostRuntime) {
     for confirms in [false, true] {
-        let Ok(draft) = Draft::new(12345678, 400, 120, 160) else {
-            return Err("no draft".into());
-        };
+        let draft = Draft::new(12345678, 400, 120, 160).expect(&rt, "a draft");
         let numbers = if confirms {
             *draft.yes().numbers()
         } else {
             draft.no()
         };
-        assert_eq!(rt; numbers, train);
+        check(&rt, "numbers", numbers, TRAIN);
     }
-    Ok(())
 }

@@ -1,10 +1,12 @@
-// Tests of the crates below through their public calls. A crate with tests of its own is proved twice, so only what needs a crate's private parts is tested there.
+//! Tests of the crates below the program, through their public calls.
 #![tactic(auto)]
 
 #[cfg(test)]
 mod cabs;
 #[cfg(test)]
 mod call_lists;
+#[cfg(test)]
+mod checks;
 #[cfg(test)]
 mod comparisons;
 #[cfg(test)]
@@ -23,8 +25,6 @@ mod runs;
 mod signs;
 #[cfg(test)]
 mod telegrams;
-#[cfg(test)]
-mod tops;
 #[cfg(test)]
 mod train_ends;
 #[cfg(test)]

@@ -1,6 +1,7 @@
 ghost use Rattle.std.specs.Prelude.{◌==◌, nat_lt};
 ghost use Rattle.std.proofs.Common.{rules};
 
+use crate::checks::check;
 use ordering::order::{Ordered, first_of};
 use ordering::shelf::{Shelf, ShelfRefusal};
 
@@ -25,24 +26,6 @@ impl Ordered for Mark {
     }
 }
 
-fn marked(level: u8, name: char) -> Mark {
-    Mark { level, name }
-}
-
-#[test]
-fn the_earliest_of_the_first(rt: HostRuntime) {
-    let run = [
-        marked(3, 'a'),
-        marked(1, 'b'),
-        marked(2, 'c'),
-        marked(1, 'd'),
-    ];
-    for &(n, place) in &[(0, None), (1, Some(0)), (2, Some(1)), (4, Some(1))] {
-        assert_eq!(rt; first_of(&run[0..n]), place);
-    }
-}
-
-// Marks for a shelf of two: the third finds no place.
 const A: Mark = Mark {
     level: 4,
     name: 'a',
@@ -58,23 +41,78 @@ const C: Mark = Mark {
     name: 'c',
 };
 
+// As A, by another name.
+const D: Mark = Mark {
+    level: 4,
+    name: 'd',
+};
+
+// Marks, and the place of the first: of those of one level the earliest.
+const FIRSTS: &[(&[Mark], Option<usize>)] = &[
+    (&[], None),
+    (&[B], Some(0)),
+    (&[B, A], Some(1)),
+    (&[B, A, C, D], Some(1)),
+];
+
 #[test]
-fn a_shelf_of_two(rt: HostRuntime) {
-    let mut run = [marked(9, '-'), marked(9, '-')];
-    let mut shelf = Shelf::new(&mut run);
-    assert_eq!(rt; shelf.first(), None);
-    for &(mark, put) in &[
-        (A, Ok(())),
-        (B, Ok(())),
-        (C, Err(ShelfRefusal::NoFreePlace)),
-    ] {
-        assert_eq!(rt; shelf.put_front(mark), put);
+fn the_earliest_of_the_lowest_is_first(rt: HostRuntime) {
+    for (marks, place) in FIRSTS {
+        check(&rt, "first", first_of(*marks), *place);
     }
-    assert_eq!(rt; shelf.first(), Some(1));
-    assert_eq!(rt; shelf.take_out(2), Err(ShelfRefusal::NoSuchPosition));
-    for &(place, taken, left) in &[(0, B, A), (1, A, B)] {
-        assert_eq!(rt; shelf.take_out(place), Ok(taken));
-        assert_eq!(rt; shelf.live(), [left].as_slice());
-        assert_eq!(rt; shelf.put_front(taken), Ok(()));
+}
+
+// A mark is put in front, or the one at a place is taken out.
+enum Change {
+    Put(Mark),
+    Take(usize),
+}
+
+// On a shelf of two, a change, the mark that it took out or its refusal, and then: the place of the first mark, and the marks.
+const STEPS: &[(
+    Change,
+    Result<Option<Mark>, ShelfRefusal>,
+    Option<usize>,
+    &[Mark],
+)] = &[
+    (Change::Put(A), Ok(None), Some(0), &[A]),
+    (Change::Put(B), Ok(None), Some(1), &[B, A]),
+    (
+        Change::Put(C),
+        Err(ShelfRefusal::NoFreePlace),
+        Some(1),
+        &[B, A],
+    ),
+    (
+        Change::Take(2),
+        Err(ShelfRefusal::NoSuchPosition),
+        Some(1),
+        &[B, A],
+    ),
+    (Change::Take(0), Ok(Some(B)), Some(0), &[A]),
+    (Change::Put(B), Ok(None), Some(1), &[B, A]),
+    (Change::Take(1), Ok(Some(A)), Some(0), &[B]),
+    (Change::Put(A), Ok(None), Some(0), &[A, B]),
+];
+
+#[test]
+fn a_shelf_of_two_takes_two_marks(rt: HostRuntime) {
+    let mut room = [C, C];
+    let mut shelf = Shelf::new(&mut room);
+    check(&rt, "an empty shelf", shelf.first(), None);
+    for (change, wanted, first, marks) in STEPS {
+        let answer = match *change {
+            Change::Put(mark) => match shelf.put_front(mark) {
+                Ok(()) => Ok(None),
+                Err(refusal) => Err(refusal),
+            },
+            Change::Take(place) => match shelf.take_out(place) {
+                Ok(mark) => Ok(Some(mark)),
+                Err(refusal) => Err(refusal),
+            },
+        };
+        check(&rt, "answer", answer, *wanted);
+        check(&rt, "first", shelf.first(), *first);
+        check(&rt, "marks", shelf.live(), *marks);
     }
 }

@@ -1,3 +1,4 @@
+use crate::checks::{check, check_words};
 use crate::units::TRAIN;
 use cab_unit::Call;
 use columns::{
@@ -5,39 +6,40 @@ use columns::{
 };
 use driver_desk::{Answer, Class, Level, Refusal, Request};
 use plan::Note;
-use std::test::Fail;
 use telegram::{Fault, Mode, Order, Refused};
 use train_end::BrakeLine;
 
+const WANTED: Order<'static> = Order::Text {
+    number: 7,
+    wanted: true,
+    text: b"Halt",
+};
+
+const SHOWN: Order<'static> = Order::Text {
+    number: 255,
+    wanted: false,
+    text: b"",
+};
+
+const CALLS: &[(Call<'static>, &str)] = &[
+    (Call::Cycle(&[0x80, 0x00]), "cycle"),
+    (Call::Press(10), "press 10"),
+    (Call::Take(TRAIN), "take"),
+    (Call::Order(Order::Authority(Mode::OnSight)), "authority OS"),
+    (Call::Order(Order::Level(3)), "level 3"),
+    (Call::Order(WANTED), "text 7 wanted"),
+    (Call::Order(SHOWN), "text 255 shown"),
+    (Call::Order(Order::TextWithdrawal(4)), "withdraw 4"),
+    (Call::Order(Order::EmergencyStop), "stop"),
+    (Call::Order(Order::Permission), "permission"),
+    (Call::Order(Order::Sign), "sign"),
+];
+
 #[test]
-fn calls_are_told(rt: HostRuntime) -> Result<(), Fail> {
-    let wanted = Order::Text {
-        number: 7,
-        wanted: true,
-        text: b"Halt",
-    };
-    let shown = Order::Text {
-        number: 255,
-        wanted: false,
-        text: b"",
-    };
-    for &(call, words) in &[
-        (Call::Cycle(&[0x80, 0x00]), "cycle"),
-        (Call::Press(10), "press 10"),
-        (Call::Take(TRAIN), "take"),
-        (Call::Order(Order::Authority(Mode::OnSight)), "authority OS"),
-        (Call::Order(Order::Level(3)), "level 3"),
-        (Call::Order(wanted), "text 7 wanted"),
-        (Call::Order(shown), "text 255 shown"),
-        (Call::Order(Order::TextWithdrawal(4)), "withdraw 4"),
-        (Call::Order(Order::EmergencyStop), "stop"),
-        (Call::Order(Order::Permission), "permission"),
-        (Call::Order(Order::Sign), "sign"),
-    ] {
-        let told = CallWords(&call);
-        assert_eq!(rt; format!(in rt.alloc(); "{told}")?.as_str(), words);
+fn calls_are_told(rt: HostRuntime) {
+    for (call, words) in CALLS {
+        check_words(&rt, rt.alloc(), &CallWords(call), words);
     }
-    Ok(())
 }
 
 const ANSWER: Answer = Answer {
@@ -63,27 +65,27 @@ const ANSWER: Answer = Answer {
     withdrawn: 6,
 };
 
-#[test]
-fn fifteen_names(rt: HostRuntime) {
-    assert_eq!(rt; HEADING.split('\t').count(), 15);
-}
+// The speed behind an answer, and the words of all columns.
+const SPEEDS: &[(Option<u16>, &str)] = &[
+    (Some(0), "30\tTR\t1\t2\t257\t3\t4:4@1t\t-\t3:0@5u\t6\t0"),
+    (Some(600), "30\tTR\t1\t2\t257\t3\t4:4@1t\t-\t3:0@5u\t6\t600"),
+    (None, "30\tTR\t1\t2\t257\t3\t4:4@1t\t-\t3:0@5u\t6\t?"),
+];
 
-// An answer with the speed behind it, and each column of it alone.
+// The words of each column alone.
+const VALUES: &[&str; 10] = &[
+    "30", "TR", "1", "2", "257", "3", "4:4@1t", "-", "3:0@5u", "6",
+];
+
 #[test]
-fn an_answer_is_told(rt: HostRuntime) -> Result<(), Fail> {
-    let columns = "30\tTR\t1\t2\t257\t3\t4:4@1t\t-\t3:0@5u\t6";
-    for &(speed, last) in &[(Some(0), "0"), (Some(600), "600"), (None, "?")] {
-        let told = AnswerColumns(&ANSWER, speed);
-        assert_eq!(rt;
-            format!(in rt.alloc(); "{told}")?.as_str(),
-            format!(in rt.alloc(); "{columns}\t{last}")?.as_str()
-        );
+fn an_answer_is_told(rt: HostRuntime) {
+    check(&rt, HEADING, HEADING.split('\t').count(), 15);
+    for (speed, words) in SPEEDS {
+        check_words(&rt, rt.alloc(), &AnswerColumns(&ANSWER, *speed), words);
     }
-    for (column, words) in COLUMNS.iter().zip(columns.split('\t')) {
-        let told = ColumnValue(*column, &ANSWER);
-        assert_eq!(rt; format!(in rt.alloc(); "{told}")?.as_str(), words);
+    for (column, words) in COLUMNS.iter().zip(VALUES) {
+        check_words(&rt, rt.alloc(), &ColumnValue(*column, &ANSWER), words);
     }
-    Ok(())
 }
 
 // Another answer in one part alone.
@@ -104,47 +106,61 @@ fn changed(column: Column) -> Answer {
     answer
 }
 
-#[test]
-fn differences(rt: HostRuntime) {
-    assert!(rt; first_difference(&ANSWER, &ANSWER).is_none());
-    for column in &COLUMNS {
-        let mut other = changed(*column);
-        assert!(rt; first_difference(&ANSWER, &other) == Some(*column));
-        // where the last column differs too, the first is told
-        other.withdrawn = 7;
-        assert!(rt; first_difference(&other, &ANSWER) == Some(*column));
+// The name of the first column in which two answers differ.
+fn first_name(one: &Answer, other: &Answer) -> &'static str {
+    match first_difference(one, other) {
+        Some(column) => column.name(),
+        None => "none",
     }
 }
 
 #[test]
-fn notes_are_told(rt: HostRuntime) -> Result<(), Fail> {
-    let refused = Refused {
-        fault: Fault::OutsideList,
-        first: 6,
-    };
-    for &(note, name, number, columns) in &[
-        (
-            Note::Draft(Refusal::BrakePercentage),
-            "draft",
-            12,
-            "12\t-\t-\t-\t-\t-\t-\t-\t-\t-\t-\t-",
-        ),
-        (
-            Note::Reading(Err(refused)),
-            "fault",
-            23,
-            "23\t6\t-\t-\t-\t-\t-\t-\t-\t-\t-\t-",
-        ),
-        (
-            Note::Reading(Ok(11)),
-            "end",
-            0,
-            "0\t11\t-\t-\t-\t-\t-\t-\t-\t-\t-\t-",
-        ),
-    ] {
-        assert_eq!(rt; (note.name(), note.number()), (name, number));
-        let told = NoteColumns(note);
-        assert_eq!(rt; format!(in rt.alloc(); "{told}")?.as_str(), columns);
+fn the_first_column_that_differs_is_told(rt: HostRuntime) {
+    check(&rt, "itself", first_name(&ANSWER, &ANSWER), "none");
+    for column in &COLUMNS {
+        let mut other = changed(*column);
+        check(&rt, "alone", first_name(&ANSWER, &other), column.name());
+        other.withdrawn = 7;
+        check(
+            &rt,
+            "with the last",
+            first_name(&other, &ANSWER),
+            column.name(),
+        );
     }
-    Ok(())
+}
+
+const FAULT: Refused = Refused {
+    fault: Fault::OutsideList,
+    first: 6,
+};
+
+// A note, its name, its number and its columns.
+const NOTES: &[(Note, &str, u8, &str)] = &[
+    (
+        Note::Draft(Refusal::BrakePercentage),
+        "draft",
+        12,
+        "12\t-\t-\t-\t-\t-\t-\t-\t-\t-\t-\t-",
+    ),
+    (
+        Note::Reading(Err(FAULT)),
+        "fault",
+        23,
+        "23\t6\t-\t-\t-\t-\t-\t-\t-\t-\t-\t-",
+    ),
+    (
+        Note::Reading(Ok(11)),
+        "end",
+        0,
+        "0\t11\t-\t-\t-\t-\t-\t-\t-\t-\t-\t-",
+    ),
+];
+
+#[test]
+fn notes_are_told(rt: HostRuntime) {
+    for &(note, name, number, columns) in NOTES {
+        check(&rt, name, (note.name(), note.number()), (name, number));
+        check_words(&rt, rt.alloc(), &NoteColumns(note), columns);
+    }
 }

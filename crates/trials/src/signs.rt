@@ -1,8 +1,9 @@
 use cab_unit::Call;
-use std::alloc::{AllocError, Global};
+use std::alloc::Global;
+use std::process::Abort;
 use telegram::Order;
 
-pub fn text(number: u8, wanted: bool, text: &[u8]) -> Call<'_> {
+fn text(number: u8, wanted: bool, text: &[u8]) -> Call<'_> {
     Call::Order(Order::Text {
         number,
         wanted,
@@ -35,10 +36,10 @@ fn call_of(sign: &[u8]) -> Call<'_> {
 }
 
 // The calls that signs stand for.
-pub fn calls_of(heap: Global, signs: &[u8]) -> Result<Vec<Call<'_>>, AllocError> {
+pub fn calls_of<'a>(rt: &impl Abort, heap: Global, signs: &'a [u8]) -> Vec<Call<'a>> {
     let mut calls = Vec::new(heap);
     for sign in signs.chunks(1) {
-        calls.push(call_of(sign))?;
+        calls.push(call_of(sign)).expect(rt, "memory for a call");
     }
-    Ok(calls)
+    calls
 }

@@ -1,4 +1,4 @@
-use std::test::Fail;
+use crate::checks::check;
 use train_end::{BrakeLine, BusEnd, PulseEnd, TrainEnd};
 
 // The speed of an end after one block.
@@ -7,60 +7,48 @@ fn after<E: TrainEnd + Drop>(mut end: E, block: &[u8]) -> Option<u16> {
     end.speed()
 }
 
+// A block, what is to be seen at it, and the speed that it means.
+type Block = (&'static [u8], &'static str, Option<u16>);
+
+const BUS_BLOCKS: &[Block] = &[
+    (&[], "no byte", None),
+    (&[0x80], "one byte", None),
+    (&[0x80, 0x14], "two bytes", Some(20)),
+    (&[0x80, 0x14, 0x80], "three bytes", None),
+    (&[0x80, 0x14, 0x80, 0x14], "four bytes", None),
+    (&[0x80, 0x14, 0x80, 0x14, 0x00], "five bytes", None),
+    (&[0x84, 0x14], "a filler bit is set", None),
+    (&[0x88, 0x14], "a filler bit is set", None),
+    (&[0x90, 0x14], "a filler bit is set", None),
+    (&[0xa0, 0x14], "a filler bit is set", None),
+    (&[0xc0, 0x14], "a filler bit is set", None),
+    (&[0x00, 0x14], "the valid bit is not set", None),
+];
+
+const PULSE_BLOCKS: &[Block] = &[
+    (&[], "no byte", None),
+    (&[0], "one byte", None),
+    (&[0, 9], "two bytes", None),
+    (&[0, 9, 0], "three bytes", None),
+    (&[0, 9, 0, 12], "four bytes", Some(13)),
+    (&[0, 9, 0, 12, 0], "five bytes", None),
+    (&[0, 100, 0, 103], "the counts differ by 3", Some(112)),
+    (&[0, 104, 0, 100], "the counts differ by 4", None),
+    (&[0x02, 0x2b, 0x02, 0x28], "555 pulses", Some(600)),
+    (&[0x02, 0x2c, 0x02, 0x2c], "556 pulses", None),
+];
+
 #[test]
-fn lengths(rt: HostRuntime) -> Result<(), Fail> {
-    let bytes = [0x80u8, 0x14, 0x80, 0x14, 0x00];
-    for n in 0..6usize {
-        let block = bytes.get(0..n).ok_or("no such part")?;
-        assert_eq!(rt; after(BusEnd::new(), block).is_some(), n == 2, "bus block");
-        let counts = [0u8, 9, 0, 12, 0];
-        let block = counts.get(0..n).ok_or("no such part")?;
-        assert_eq!(rt;
-            after(PulseEnd::new(), block).is_some(),
-            n == 4,
-            "pulse block"
-        );
+fn blocks_mean_speeds(rt: HostRuntime) {
+    for (block, seen, speed) in BUS_BLOCKS {
+        check(&rt, seen, after(BusEnd::new(), block), *speed);
     }
-    Ok(())
-}
-
-#[test]
-fn bus_bits(rt: HostRuntime) {
-    assert_eq!(rt; after(BusEnd::new(), &[0x80, 0x14]), Some(20));
-    for filler in [0x04u8, 0x08, 0x10, 0x20, 0x40] {
-        assert_eq!(rt;
-            after(BusEnd::new(), &[0x80 | filler, 0x14]),
-            None,
-            "a filler bit is set"
-        );
+    for (block, seen, speed) in PULSE_BLOCKS {
+        check(&rt, seen, after(PulseEnd::new(), block), *speed);
     }
-    assert_eq!(rt;
-        after(BusEnd::new(), &[0x00, 0x14]),
-        None,
-        "the valid bit is not set"
-    );
 }
 
-#[test]
-fn pulse_counts(rt: HostRuntime) {
-    assert_eq!(rt; after(PulseEnd::new(), &[0, 100, 0, 103]), Some(112));
-    assert_eq!(rt;
-        after(PulseEnd::new(), &[0, 104, 0, 100]),
-        None,
-        "the counts differ by 4"
-    );
-    assert_eq!(rt;
-        after(PulseEnd::new(), &[0x02, 0x2B, 0x02, 0x28]),
-        Some(600)
-    );
-    assert_eq!(rt;
-        after(PulseEnd::new(), &[0x02, 0x2C, 0x02, 0x2C]),
-        None,
-        "556 pulses"
-    );
-}
-
-// The line of an end, as a number, when it is new and after it was set.
+// The line of an end, as a number, when it is new and after it was set, and its speed.
 fn lines<E: TrainEnd + Drop>(mut end: E, line: BrakeLine) -> (u8, u8, Option<u16>) {
     let new = end.line().number();
     end.set_line(line);
@@ -68,13 +56,18 @@ fn lines<E: TrainEnd + Drop>(mut end: E, line: BrakeLine) -> (u8, u8, Option<u16
 }
 
 #[test]
-fn brake_lines_by_their_numbers(rt: HostRuntime) {
+fn brake_lines_have_numbers(rt: HostRuntime) {
     for &(line, number) in &[
         (BrakeLine::Released, 0),
         (BrakeLine::Service, 1),
         (BrakeLine::Emergency, 2),
     ] {
-        assert_eq!(rt; lines(BusEnd::new(), line), (2, number, None));
-        assert_eq!(rt; lines(PulseEnd::new(), line), (2, number, None));
+        check(&rt, "bus", lines(BusEnd::new(), line), (2, number, None));
+        check(
+            &rt,
+            "pulse",
+            lines(PulseEnd::new(), line),
+            (2, number, None),
+        );
     }
 }

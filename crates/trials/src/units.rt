@@ -1,7 +1,9 @@
-use crate::cabs::run_two;
+use crate::cabs::{ready, run_two};
+use crate::checks::check;
 use crate::noting::NotingEnd;
 use cab_unit::{Answer, Call, Draft, TrainRecord, Unit};
-use std::test::Fail;
+use std::alloc::Global;
+use std::process::Abort;
 use telegram::Order;
 use train_end::BusEnd;
 
@@ -28,40 +30,45 @@ fn drafted(driver: u32, length: u32, percentage: u32, speed: u32) -> u8 {
     }
 }
 
+// Driver number, length, brake percentage and maximum speed, and what comes of a draft of them.
+const DRAFTS: &[(u32, u32, u32, u32, u8)] = &[
+    (1, 1, 10, 5, 0),
+    (99999999, 4095, 250, 600, 0),
+    (0, 0, 0, 0, 10),
+    (100000000, 1, 10, 5, 10),
+    (1, 0, 0, 0, 11),
+    (1, 4096, 10, 5, 11),
+    (1, 1, 9, 0, 12),
+    (1, 1, 251, 5, 12),
+    (1, 1, 10, 0, 13),
+    (1, 1, 10, 605, 13),
+    (1, 1, 10, 12, 13),
+];
+
 #[test]
-fn drafts(rt: HostRuntime) {
-    assert_eq!(rt; drafted(1, 1, 10, 5), 0);
-    assert_eq!(rt; drafted(99999999, 4095, 250, 600), 0);
-    assert_eq!(rt;
-        (drafted(0, 0, 0, 0), drafted(100000000, 1, 10, 5)),
-        (10, 10)
-    );
-    assert_eq!(rt; (drafted(1, 0, 0, 0), drafted(1, 4096, 10, 5)), (11, 11));
-    assert_eq!(rt; (drafted(1, 1, 9, 0), drafted(1, 1, 251, 5)), (12, 12));
-    assert_eq!(rt;
-        (
-            drafted(1, 1, 10, 0),
-            drafted(1, 1, 10, 605),
-            drafted(1, 1, 10, 12),
-        ),
-        (13, 13, 13)
-    );
+fn a_draft_is_refused_by_its_first_bad_number(rt: HostRuntime) {
+    for &(driver, length, percentage, speed, refusal) in DRAFTS {
+        let found = drafted(driver, length, percentage, speed);
+        check(
+            &rt,
+            "numbers, refusal",
+            (driver, length, percentage, speed, found),
+            (driver, length, percentage, speed, refusal),
+        );
+    }
 }
 
-// A taking that is refused hands the record back, and the next one takes it.
+// A train that is not known to stand takes no record; the driver's number comes back with the refusal.
 #[test]
-fn takes_when_standing(rt: HostRuntime) -> Result<(), Fail> {
-    let Ok(draft) = Draft::new(12345678, 400, 120, 160) else {
-        return Err("no draft".into());
-    };
+fn a_taking_that_is_refused_hands_the_record_back(rt: HostRuntime) {
+    let draft = Draft::new(12345678, 400, 120, 160).expect(&rt, "a draft");
     let mut unit = Unit::switch_on(BusEnd::new());
-    let (refused, numbers) = match unit.take(draft.yes()) {
+    let taken = match unit.take(draft.yes()) {
         Ok(answer) => (outcome(&answer), 0),
         Err((answer, confirmed)) => (outcome(&answer), confirmed.numbers().driver),
     };
     let _end = unit.switch_off();
-    assert_eq!(rt; (refused, numbers), (14, 12345678));
-    Ok(())
+    check(&rt, "taking", taken, (14, 12345678));
 }
 
 // Calls, and what their end has noted when the unit was switched on, made the calls up to this one, and was switched off.
@@ -85,16 +92,20 @@ const NOTED: &[(Call<'static>, &str)] = &[
     (Call::Take(TrainRecord { driver: 0, ..TRAIN }), "1b11b1002"),
 ];
 
+// Holds what the end has noted of a run of these calls against what is wanted.
+fn check_notes(rt: &impl Abort, heap: Global, calls: &[Call<'_>], noted: &str) {
+    let one = ready(rt, heap, NotingEnd::new(heap), calls);
+    let other = ready(rt, heap, BusEnd::new(), &[]);
+    let (done, _) = run_two(rt, one, other);
+    check(rt, noted, done.end.notes.as_slice(), noted.as_bytes());
+}
+
 // The line is set once at switching on, in each accepted call and at switching off, behind the block that a cycle gives.
-// A refused call sets no line, and no other call gives a block.
 #[test]
-fn lines_and_blocks(rt: HostRuntime) -> Result<(), Fail> {
-    let heap = rt.alloc();
-    let mut calls = Vec::new(heap);
+fn a_refused_call_sets_no_line_and_gives_no_block(rt: HostRuntime) {
+    let mut calls = Vec::new(rt.alloc());
     for (call, noted) in NOTED {
-        calls.push(*call)?;
-        let (done, _) = run_two(heap, NotingEnd::new(heap), &calls, BusEnd::new(), &[])?;
-        assert_eq!(rt; done.end.notes.as_slice(), noted.as_bytes());
+        calls.push(*call).expect(&rt, "memory for a call");
+        check_notes(&rt, rt.alloc(), &calls, noted);
     }
-    Ok(())
 }

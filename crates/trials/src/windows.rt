@@ -1,5 +1,6 @@
+use crate::checks::{InShort, check, check_each, check_words};
 use ordering::shelf::ShelfRefusal;
-use std::test::Fail;
+use std::process::Abort;
 use window::Window;
 use window::line::Line;
 use window::refusal::Refusal;
@@ -13,79 +14,154 @@ fn line(cycle: u32, number: u8, place: usize, length: usize) -> Line {
     }
 }
 
-#[test]
-fn no_room_at_all(rt: HostRuntime) {
-    let mut run: [Line; 0] = [];
-    let mut window = Window::new(&mut run);
-    assert_eq!(rt; window.top(), None);
-    assert_eq!(rt; window.add(line(1, 4, 0, 0)), Err(Refusal::NoFreeLine));
+// A line of this cycle and number is added, or the line of this number is taken out.
+enum Change {
+    Add(u32, u8),
+    Remove(u8),
 }
+
+// The cycle and the number of a line, and the place and the length of its text.
+type ShortLine = (u32, u8, usize, usize);
+
+// A change, what is answered, and then: which line is on top, and the cycle and number of each line.
+struct Step(
+    Change,
+    Result<(), Refusal>,
+    Option<usize>,
+    &'static [ShortLine],
+);
+
+const NO_LINE: &[Step] = &[Step(Change::Add(1, 4), Err(Refusal::NoFreeLine), None, &[])];
 
 // In a full window the number that is there already is told first.
-#[test]
-fn one_line(rt: HostRuntime) {
-    let mut run = [line(0, 0, 0, 0)];
-    let mut window = Window::new(&mut run);
-    assert_eq!(rt; window.add(line(1, 4, 0, 0)), Ok(()));
-    assert_eq!(rt; window.add(line(2, 4, 0, 0)), Err(Refusal::NumberThere));
-    assert_eq!(rt; window.add(line(2, 5, 0, 0)), Err(Refusal::NoFreeLine));
-    assert_eq!(rt; window.remove(5), Err(Refusal::NoSuchLine));
-    assert_eq!(rt; window.remove(4), Ok(()));
-    assert_eq!(rt; window.len(), 0);
-}
+const ONE_LINE: &[Step] = &[
+    Step(Change::Add(1, 4), Ok(()), Some(0), &[(1, 4, 0, 0)]),
+    Step(
+        Change::Add(2, 4),
+        Err(Refusal::NumberThere),
+        Some(0),
+        &[(1, 4, 0, 0)],
+    ),
+    Step(
+        Change::Add(2, 5),
+        Err(Refusal::NoFreeLine),
+        Some(0),
+        &[(1, 4, 0, 0)],
+    ),
+    Step(
+        Change::Remove(5),
+        Err(Refusal::NoSuchLine),
+        Some(0),
+        &[(1, 4, 0, 0)],
+    ),
+    Step(Change::Remove(4), Ok(()), None, &[]),
+];
 
-#[test]
-fn the_top_line(rt: HostRuntime) {
-    let mut run = [line(0, 0, 0, 0); 3];
-    let mut window = Window::new(&mut run);
-    for &(cycle, number, top) in &[(7, 9, Some(0)), (7, 4, Some(0)), (6, 1, Some(1))] {
-        assert_eq!(rt; window.add(line(cycle, number, 0, 0)), Ok(()));
-        assert_eq!(rt; window.top(), top);
+const THREE_LINES: &[Step] = &[
+    Step(Change::Add(7, 9), Ok(()), Some(0), &[(7, 9, 0, 0)]),
+    Step(
+        Change::Add(7, 4),
+        Ok(()),
+        Some(0),
+        &[(7, 4, 0, 0), (7, 9, 0, 0)],
+    ),
+    Step(
+        Change::Add(6, 1),
+        Ok(()),
+        Some(1),
+        &[(6, 1, 0, 0), (7, 4, 0, 0), (7, 9, 0, 0)],
+    ),
+    Step(
+        Change::Add(8, 4),
+        Err(Refusal::NumberThere),
+        Some(1),
+        &[(6, 1, 0, 0), (7, 4, 0, 0), (7, 9, 0, 0)],
+    ),
+    Step(
+        Change::Add(8, 5),
+        Err(Refusal::NoFreeLine),
+        Some(1),
+        &[(6, 1, 0, 0), (7, 4, 0, 0), (7, 9, 0, 0)],
+    ),
+    Step(
+        Change::Remove(4),
+        Ok(()),
+        Some(1),
+        &[(6, 1, 0, 0), (7, 9, 0, 0)],
+    ),
+    Step(
+        Change::Remove(4),
+        Err(Refusal::NoSuchLine),
+        Some(1),
+        &[(6, 1, 0, 0), (7, 9, 0, 0)],
+    ),
+];
+
+impl InShort<ShortLine> for Line {
+    fn in_short(&self) -> ShortLine {
+        (self.cycle, self.number, self.place, self.length)
     }
-    assert_eq!(rt;
-        window.lines(),
-        [line(6, 1, 0, 0), line(7, 4, 0, 0), line(7, 9, 0, 0)].as_slice()
-    );
-    assert_eq!(rt; window.remove(4), Ok(()));
-    assert_eq!(rt; window.top(), Some(1));
-    assert_eq!(rt;
-        window.lines(),
-        [line(6, 1, 0, 0), line(7, 9, 0, 0)].as_slice()
-    );
+}
+
+fn take_steps(rt: &impl Abort, room: &mut [Line], steps: &[Step]) {
+    let mut window = Window::new(room);
+    check(rt, "a new window", window.top(), None);
+    for Step(change, wanted, top, lines) in steps {
+        let answer = match *change {
+            Change::Add(cycle, number) => window.add(line(cycle, number, 0, 0)),
+            Change::Remove(number) => window.remove(number),
+        };
+        check(rt, "answer", answer, *wanted);
+        check(rt, "top line", window.top(), *top);
+        check_each(rt, "lines", window.lines(), lines);
+    }
+    let behind = window.show(window.len(), b"belts");
+    check(rt, "behind the last", behind, Err(Refusal::NoSuchLine));
 }
 
 #[test]
-fn parts_of_a_store(rt: HostRuntime) {
-    let most = usize::MAX;
-    let cases = [
-        (1, 3, Ok(b"elt" as &[u8])),
-        (5, 0, Ok(b"")),
-        (5, 1, Err(Refusal::OutsideStore)),
-        (most, 0, Err(Refusal::OutsideStore)),
-        (most, 2, Err(Refusal::OutsideStore)),
-    ];
-    for (place, length, part) in cases {
-        let mut run = [line(0, 0, 0, 0)];
-        let mut window = Window::new(&mut run);
-        assert_eq!(rt; window.add(line(1, 4, place, length)), Ok(()));
-        assert_eq!(rt; window.show(0, b"belts"), part);
-        assert_eq!(rt; window.show(1, b"belts"), Err(Refusal::NoSuchLine));
+fn lines_come_and_go(rt: HostRuntime) {
+    take_steps(&rt, &mut [], NO_LINE);
+    take_steps(&rt, &mut [line(0, 0, 0, 0)], ONE_LINE);
+    take_steps(&rt, &mut [line(0, 0, 0, 0); 3], THREE_LINES);
+}
+
+// The place and length of a line's text, and what is shown of the store "belts".
+const PARTS: &[(usize, usize, Result<&[u8], Refusal>)] = &[
+    (1, 3, Ok(b"elt")),
+    (0, 5, Ok(b"belts")),
+    (5, 0, Ok(b"")),
+    (5, 1, Err(Refusal::OutsideStore)),
+    (usize::MAX, 0, Err(Refusal::OutsideStore)),
+    (usize::MAX, 2, Err(Refusal::OutsideStore)),
+];
+
+#[test]
+fn texts_are_parts_of_a_store(rt: HostRuntime) {
+    for (place, length, part) in PARTS {
+        let mut room = [line(0, 0, 0, 0)];
+        let mut window = Window::new(&mut room);
+        let added = window.add(line(1, 4, *place, *length));
+        check(&rt, "added", added, Ok(()));
+        check(&rt, "shown", window.show(0, b"belts"), *part);
+        check(
+            &rt,
+            "no line",
+            window.show(1, b"belts"),
+            Err(Refusal::NoSuchLine),
+        );
     }
 }
 
 #[test]
-fn refusals_of_the_shelf(rt: HostRuntime) {
-    for &(why, refusal) in &[
+fn refusals_have_numbers_and_words(rt: HostRuntime) {
+    for &(of_the_shelf, refusal) in &[
         (ShelfRefusal::NoFreePlace, Refusal::NoFreeLine),
         (ShelfRefusal::NoSuchPosition, Refusal::NoSuchLine),
     ] {
-        assert_eq!(rt; Refusal::from(why), refusal);
+        check(&rt, "of the shelf", Refusal::from(of_the_shelf), refusal);
     }
-}
-
-#[test]
-fn numbers_and_texts(rt: HostRuntime) -> Result<(), Fail> {
-    for &(refusal, number, text) in &[
+    for &(refusal, number, words) in &[
         (Refusal::NoFreeLine, 50, "No line is free."),
         (Refusal::NumberThere, 51, "The number is there already."),
         (Refusal::NoSuchLine, 52, "There is no such line."),
@@ -95,8 +171,7 @@ fn numbers_and_texts(rt: HostRuntime) -> Result<(), Fail> {
             "The text lies outside the store.",
         ),
     ] {
-        assert_eq!(rt; refusal.number(), number);
-        assert_eq!(rt; format!(in rt.alloc(); "{refusal}")?.as_str(), text);
+        check(&rt, words, refusal.number(), number);
+        check_words(&rt, rt.alloc(), &refusal, words);
     }
-    Ok(())
 }

@@ -1,4 +1,7 @@
-// The message window: lines of text on a lent slice, the choice of the top line, and the part of a store that a line shows.
+//! The message window: lines of text for the driver, and which of them is on top.
+//!
+//! The window holds no words. A line says where its text lies in a store of bytes, and the store is
+//! given to the call that shows it. The lines stand on memory that the owner lends.
 #![tactic(auto)]
 
 ghost use Rattle.ordering.specs.Shelf.{items};
@@ -11,7 +14,8 @@ pub mod line;
 mod methods;
 pub mod refusal;
 
-// The lines stand front to back, the newest added in front. No number is there twice. No model, since clauses name the lent run beside the lines.
+/// A message window. Its lines stand front to back, counted from position 0, and the line that was
+/// added last is in front. No two of them have the same number.
 #[derive(Drop)]
 pub struct Window<'a> {
     shelf: Shelf<'a, Line>,

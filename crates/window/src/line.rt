@@ -1,20 +1,24 @@
-// One line of the window: the cycle that it came in, its text's number, and where its text lies in a store.
 ghost use Rattle.window.specs.Lines.{newer, level};
 ghost use Rattle.std.proofs.Common.{rules};
 
 use ordering::order::Ordered;
 use std::cmp::Reverse;
 
-// A place and a length and no borrowed text: the store takes new texts while the line stands.
+/// One line of the window. It holds a place and a length and no words, so that the store can take
+/// new texts while the line stands. Whether its text lies in the store is asked when it is shown.
 #[derive(Clone, Copy, PartialEq, Eq, Debug)]
 pub struct Line {
+    /// The number of the cycle that it came in, 0 to 4294967295.
     pub cycle: u32,
+    /// The number of its text, 0 to 255.
     pub number: u8,
+    /// Where its text begins in the store, counted from 0. It may be any number.
     pub place: usize,
+    /// How many bytes its text has. It may be any number.
     pub length: usize,
 }
 
-// The larger cycle is before; in one cycle, the smaller number.
+/// The larger cycle is before; in one cycle, the smaller number.
 impl Ordered for Line {
     ghost before = { newer };
 

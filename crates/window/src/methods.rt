@@ -32,6 +32,8 @@ fn part_of(line: Line, store: &[u8]) -> Result<&[u8], Refusal>
 }
 
 impl<'a> Window<'a> {
+    /// An empty window on this run, with as many rows as the run has lines. It may have none: then
+    /// each line is refused.
     pub fn new(run: &'a mut [Line]) -> Window<'a>
         ensures empty { lines result ≡ [] }
         ensures room { rows result ≡ length run.old }
@@ -42,24 +44,31 @@ impl<'a> Window<'a> {
         }
     }
 
+    /// How many lines stand in the window.
     pub fn len(&self) -> usize
         ensures { result ≡ length (lines self.now) }
     {
         self.shelf.len()
     }
 
+    /// The lines of the window, front to back.
     pub fn lines(&self) -> &[Line]
         ensures { result.now ≡ lines self.now }
     {
         self.shelf.live()
     }
 
+    /// Adds a line in front of the others.
+    ///
+    /// `NumberThere` (51) where a line with the same number stands, else `NoFreeLine` (50) where
+    /// every row is in use. The window is then as before.
     pub fn add(&mut self, line: Line) -> Result<(), Refusal>
         ensures same_run { SameRun self.old.shelf self.new.shelf }
         ensures answer { result ≡ add_answer (rows self.old) (lines self.old) line }
         ensures after { lines self.new ≡ added (rows self.old) (lines self.old) line }
         ensures refused { is_ok result ≡ false → self.new.shelf ≡ self.old.shelf }
-        ensures undone { is_ok result ≡ true → removed line.number (lines self.new) ≡ lines self.old }
+        ensures undone { is_ok result ≡ true → removed line.number (lines self.new)
+            ≡ lines self.old }
     {
         if is_there(self.lines(), line.number) {
             return Err(Refusal::NumberThere);
@@ -68,6 +77,9 @@ impl<'a> Window<'a> {
         Ok(())
     }
 
+    /// Removes the line with this number, 0 to 255. The others keep their order.
+    ///
+    /// `NoSuchLine` (52) where no line has the number. The window is then as before.
     pub fn remove(&mut self, number: u8) -> Result<(), Refusal>
         ensures same_run { SameRun self.old.shelf self.new.shelf }
         ensures answer { result ≡ remove_answer (lines self.old) number }
@@ -80,6 +92,8 @@ impl<'a> Window<'a> {
         Ok(())
     }
 
+    /// The position of the top line, or none where no line stands. It is the line of the largest
+    /// cycle, and of several in that cycle the one with the smallest number.
     pub fn top(&self) -> Option<usize>
         ensures value { result ≡ chosen newer (lines self.now) }
         ensures leads { Leads newer (lines self.now) result }
@@ -87,6 +101,10 @@ impl<'a> Window<'a> {
         self.shelf.first()
     }
 
+    /// The text of the line at a position, counted from 0: its bytes, lent from this store.
+    ///
+    /// `NoSuchLine` (52) where no line stands there, else `OutsideStore` (53) where the text begins
+    /// or ends behind the store's end.
     pub fn show<'s>(&self, position: usize, store: &'s [u8]) -> Result<&'s [u8], Refusal>
         ensures { handed result ≡ shown (lines self.now) position store.now }
     {

@@ -1,19 +1,24 @@
-// Why a call of the window was refused.
 ghost use Rattle.std.specs.Prelude.{◌≡◌, Some};
 ghost use Rattle.window.specs.Refusals.{refusal_number, refusal_text, refusal_of};
 
 use ordering::shelf::ShelfRefusal;
 use std::fmt;
 
+/// Why a call of the window was refused. A refusal leaves the window as before.
 #[derive(Clone, Copy, PartialEq, Eq, Debug)]
 pub enum Refusal {
+    /// Number 50: every row of the window is in use.
     NoFreeLine = 50,
+    /// Number 51: a line with the number stands already.
     NumberThere = 51,
+    /// Number 52: no line has the number, or none stands at the position.
     NoSuchLine = 52,
+    /// Number 53: the text of the line does not lie in the store.
     OutsideStore = 53,
 }
 
 impl Refusal {
+    /// The number of the refusal, 50 to 53.
     pub fn number(&self) -> u8
         ensures { result ≡ refusal_number self.now }
     {
@@ -21,7 +26,7 @@ impl Refusal {
     }
 }
 
-// A shelf that is full has no free line; a position that it lacks is no line.
+/// A shelf that is full has no free line; a position that it lacks is no line.
 impl From<ShelfRefusal> for Refusal {
     ghost from_gives = { λ why r. r ≡ refusal_of why };
 
@@ -33,6 +38,7 @@ impl From<ShelfRefusal> for Refusal {
     }
 }
 
+/// The refusal as a sentence for people.
 impl fmt::Display for Refusal {
     ghost output = { λ r. Some (refusal_text r) };
 

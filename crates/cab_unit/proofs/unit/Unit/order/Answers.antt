@@ -3,11 +3,15 @@ use Rattle.telegram.specs.Format.{value_of}
 use Rattle.cab_unit.specs.Events.{Event, Event.order}
 use Rattle.cab_unit.specs.Steps.{next}
 use Rattle.cab_unit.specs.View.{view}
-use Rattle.cab_unit.proofs.Stepping.{facts_after}
+use Rattle.cab_unit.proofs.Stepping.{facts_after, facts_kept}
 use Rattle.cab_unit.proofs.unit.Unit.order.Goals as goal
 
+-- a refused call leaves the cab
 pub invariant_of-self : goal.invariant_of-self
-invariant_of-self g c =
+invariant_of-self g c = record { facts = facts_kept _ c.args.self.now.cab c.in-Err.ensures.back c.args.self.now.facts }
+
+pub invariant_of-self-in-Ok : goal.invariant_of-self-in-Ok
+invariant_of-self-in-Ok g c =
     let reads = g.E.TrainEnd.reading in
     let e : Event = order (value_of c.args.order) in
     let see = view g.E.TrainEnd in

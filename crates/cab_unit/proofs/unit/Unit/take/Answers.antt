@@ -2,11 +2,15 @@ use Rattle.std.proofs.Common.{◌≡◌, rules}
 use Rattle.cab_unit.specs.Events.{Event, Event.take}
 use Rattle.cab_unit.specs.Steps.{next}
 use Rattle.cab_unit.specs.View.{view}
-use Rattle.cab_unit.proofs.Stepping.{facts_after}
+use Rattle.cab_unit.proofs.Stepping.{facts_after, facts_kept}
 use Rattle.cab_unit.proofs.unit.Unit.take.Goals as goal
 
+-- a refused call leaves the cab
 pub invariant_of-self : goal.invariant_of-self
-invariant_of-self g c =
+invariant_of-self g c = record { facts = facts_kept _ c.args.self.now.cab c.in-Err.ensures.back c.args.self.now.facts }
+
+pub invariant_of-self-in-Ok : goal.invariant_of-self-in-Ok
+invariant_of-self-in-Ok g c =
     let reads = g.E.TrainEnd.reading in
     let e : Event = take c.args.confirmed.train in
     let see = view g.E.TrainEnd in
