@@ -91,16 +91,19 @@ def try_full_file(folder):
 def try_little_memory(folder):
     """Where memory is wanting, that alone is told, and what was printed is how the output begins.
 
-    The program has somewhat more memory than it wants to start, and the lists grow. Their last texts differ, and the
-    row that tells so is long: among the lists that just do not fit are some that have no memory left for it alone.
+    The program has somewhat more memory than it wants to start, and the lists grow, by a row or by the bytes of a
+    block. Their last texts differ, and the row that tells so is long: among the lists that just do not fit are some
+    that have no memory left for it alone.
     """
     told = []
     came = set()
     starts = (kilobytes for kilobytes in range(1024, 65536, 16) if run(["--version"], limits=memory(kilobytes))[0] == 0)
     kilobytes = next(starts) + 192
-    for rows in [*range(300, 700, 4), 16000]:
+    lists = [(rows, 0) for rows in [*range(300, 700, 4), 16000]] + [(400, size) for size in range(256, 32768, 256)]
+    for rows, size in lists:
+        block = f"cycle {size * '80'} -\n" if size else ""
         for name, letter in (("a", "e4"), ("b", "e5")):
-            (folder / name).write_text("order sign\n" * rows + f"telegram 30cc0100{200 * letter}\n")
+            (folder / name).write_text("order sign\n" * rows + block + f"telegram 30cc0100{200 * letter}\n")
         words = ["--second", "b", "a"]
         _, whole, _ = run(words, cwd=folder)
         status, stdout, stderr = run(words, cwd=folder, limits=memory(kilobytes))
@@ -109,7 +112,7 @@ def try_little_memory(folder):
         elif (status, stdout, stderr) == (1, whole, b""):
             came.add("enough")
         else:
-            told.append(f"little memory, {kilobytes} kB for {rows} rows: status {status}, {len(stdout)} bytes, {stderr}")
+            told.append(f"little memory, {kilobytes} kB for {rows} rows and {size} bytes: status {status}, {len(stdout)} bytes, {stderr}")
     every = {"wanting to read the list", "wanting before", "wanting while rows are printed", "enough"}
     return told + [f"little memory: it was never {it}" for it in sorted(every - came)]
 

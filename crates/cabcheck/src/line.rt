@@ -25,10 +25,28 @@ impl Line {
         }
     }
 
+    // One word more, as it stands.
+    pub fn put_word(&mut self, word: &str) {
+        if let Err(error) = self.bytes.extend_from_slice(word.as_bytes()) {
+            self.error = Some(error.into());
+        }
+    }
+
     // One piece more, with blanks behind it up to a width.
     pub fn left<D: fmt::Display + Drop>(&mut self, piece: D, width: usize) {
         let end = self.bytes.len().saturating_add(width);
         self.put(piece);
+        self.fill(end);
+    }
+
+    // One word more, with blanks behind it up to a width.
+    pub fn left_word(&mut self, word: &str, width: usize) {
+        let end = self.bytes.len().saturating_add(width);
+        self.put_word(word);
+        self.fill(end);
+    }
+
+    fn fill(&mut self, end: usize) {
         if self.bytes.len() < end
             && let Err(error) = self.bytes.resize(end, b' ')
         {

@@ -1,3 +1,6 @@
+ghost use Rattle.std.specs.Prelude.{◌≡◌, length};
+ghost use Rattle.std.specs.Iterator.{at_most};
+
 use crate::sides::Sides;
 use compare::Mark;
 use itertools::Itertools;
@@ -41,34 +44,64 @@ fn has_row(rows: &[usize], row: Option<usize>) -> bool {
 
 // An end of a telegram is told and not compared.
 fn is_compared(note: &Note) -> bool {
-    !matches!(note, Note::Reading(Ok(_)))
+    !matches!(note, Note::End(_))
 }
 
-// The notes of one cab. What stands inside a stretch that came in another order counts as standing
-// behind it.
-fn notes_in(heap: Global, rows: &[Row], marks: &[Mark]) -> Result<Vec<Noted>, AllocError> {
-    let mut notes = Vec::new(heap);
-    let mut marks = marks.iter();
-    let mut inside = false;
-    let mut behind: usize = 0;
-    for (row, Row { line, told }) in rows.iter().enumerate() {
-        match told {
-            Told::Call(_) => {
-                if !inside {
-                    behind = behind.wrapping_add(1);
-                }
-                inside = matches!(marks.next(), Some(mark) if mark.is_inside());
-            }
-            Told::Note(note) if is_compared(note) => notes.push(Noted {
-                behind,
-                row,
-                line: *line,
-                number: note.number(),
-            })?,
-            Told::Note(_) => {}
+// The rows of one cab that are left, each with its note where that is compared. What stands inside
+// a stretch that came in another order counts as standing behind it.
+#[derive(Drop)]
+struct NoteRows<'p> {
+    rows: &'p [Row],
+    marks: &'p [Mark],
+    row: usize,
+    inside: bool,
+    behind: usize,
+}
+
+impl<'p> NoteRows<'p> {
+    fn new(rows: &'p [Row], marks: &'p [Mark]) -> NoteRows<'p> {
+        NoteRows {
+            rows,
+            marks,
+            row: 0,
+            inside: false,
+            behind: 0,
         }
     }
-    Ok(notes)
+
+    fn pass_call(&mut self)
+        ensures { self.new.rows ≡ self.old.rows }
+    {
+        if !self.inside {
+            self.behind = self.behind.wrapping_add(1);
+        }
+        self.inside = matches!(self.marks.split_off_first(), Some(mark) if mark.is_inside());
+    }
+}
+
+impl Iterator for NoteRows<'_> {
+    type Item = Option<Noted>;
+
+    ghost remaining = { λ s. at_most (length s.rows.now) };
+
+    fn next(&mut self) -> Option<Option<Noted>> {
+        let Row { line, told } = *self.rows.split_off_first()?;
+        let row = self.row;
+        self.row = row.wrapping_add(1);
+        match told {
+            Told::Call(_) => {
+                self.pass_call();
+                Some(None)
+            }
+            Told::Note(note) if is_compared(&note) => Some(Some(Noted {
+                behind: self.behind,
+                row,
+                line,
+                number: note.number(),
+            })),
+            Told::Note(_) => Some(None),
+        }
+    }
 }
 
 // The notes of both cabs, compared in their order between the same two calls.
@@ -77,21 +110,16 @@ pub fn compare_notes(
     sides: &Sides<'_, '_>,
     marks: &[Mark],
 ) -> Result<NotesCompared, AllocError> {
-    let bus = notes_in(heap, sides.bus.rows, marks)?;
-    let pulse = notes_in(heap, sides.pulse.rows, marks)?;
+    let bus = NoteRows::new(sides.bus.rows, marks).filter_map(|note| note);
+    let pulse = NoteRows::new(sides.pulse.rows, marks).filter_map(|note| note);
     let mut found = NotesCompared {
         compared: 0,
         differing: Vec::new(heap),
         bus_rows: Vec::new(heap),
         pulse_rows: Vec::new(heap),
     };
-    for pair in bus
-        .iter()
-        .merge_join_by(pulse.iter(), |one, other| one.behind.cmp(&other.behind))
-    {
+    for pair in bus.merge_join_by(pulse, |one, other| one.behind.cmp(&other.behind)) {
         let (one, other) = pair.left_and_right();
-        let one = one.copied();
-        let other = other.copied();
         found.compared = found.compared.wrapping_add(1);
         if number_of(one) != number_of(other) {
             found.add(one, other)?;

@@ -70,8 +70,8 @@ impl fmt::Display for NoteWords {
     fn fmt<W: fmt::Write>(&self, f: &mut fmt::Formatter<W>) -> fmt::Result {
         match self.0 {
             Note::Draft(_) => Ok(()),
-            Note::Reading(Err(Refused { fault, first })) => write!(f, "  at {first}: {fault}"),
-            Note::Reading(Ok(place)) => write!(f, "  at {place}"),
+            Note::Fault(Refused { fault, first }) => write!(f, "  at {first}: {fault}"),
+            Note::End(place) => write!(f, "  at {place}"),
         }
     }
 }
@@ -159,21 +159,21 @@ struct Table<'o, W> {
 impl<W: Write> Table<'_, W> {
     // The columns in front of what a row tells: the mark, the lines and the cab.
     fn begin(&mut self, said: Said, bus: Option<usize>, pulse: Option<usize>, cab: &str) {
-        self.line.left(said.word(), MARK_WIDTH);
+        self.line.left_word(said.word(), MARK_WIDTH);
         if self.two_lists {
             self.put_number(bus);
             self.put_number(pulse);
         } else {
             self.put_number(bus.or(pulse));
         }
-        self.line.put(' ');
-        self.line.left(cab, CAB_WIDTH);
+        self.line.put_word(" ");
+        self.line.left_word(cab, CAB_WIDTH);
     }
 
     fn put_number(&mut self, number: Option<usize>) {
         match number {
             Some(line) => self.line.put(format_args!(" {line:>6}")),
-            None => self.line.put("      -"),
+            None => self.line.put_word("      -"),
         }
     }
 
@@ -198,12 +198,12 @@ impl<W: Write> Table<'_, W> {
                 let column = answered.places.map_or(column, Column::Placed);
                 self.put_answer(answered.answer, column);
                 if let Some(words) = answered.message {
-                    self.line.put("   ");
+                    self.line.put_word("   ");
                     self.line.put(Words(Some(words)));
                 }
             }
             Item::Note(note) => {
-                self.line.left(note.name(), CALL_WIDTH);
+                self.line.left_word(note.name(), CALL_WIDTH);
                 let number = note.number();
                 self.line.put(format_args!(" {number:>3}"));
                 self.line.put(NoteWords(note));
@@ -245,7 +245,7 @@ impl<W: Write> Table<'_, W> {
     fn put_or_nothing(&mut self, entry: Option<&Entry<'_, '_>>, column: Column) -> io::Result<()> {
         match entry {
             Some(entry) => self.put_entry(entry, column),
-            None => self.line.put("nothing"),
+            None => self.line.put_word("nothing"),
         }
         self.end()
     }
@@ -258,7 +258,7 @@ impl<W: Write> Table<'_, W> {
         one: D,
         other: F,
     ) {
-        self.line.put(if *first { "" } else { ", " });
+        self.line.put_word(if *first { "" } else { ", " });
         *first = false;
         self.line.put(format_args!("{name} {one} <> {other}"));
     }
@@ -270,9 +270,9 @@ impl<W: Write> Table<'_, W> {
         one: &Answered<'_, '_>,
         other: &Answered<'_, '_>,
     ) -> io::Result<()> {
-        self.line.left(found.said().word(), MARK_WIDTH);
+        self.line.left_word(found.said().word(), MARK_WIDTH);
         let lines = if self.two_lists { 2 } else { 1 };
-        self.line.left("", LINE_WIDTH * lines + CAB_WIDTH + 1);
+        self.line.left_word("", LINE_WIDTH * lines + CAB_WIDTH + 1);
         let mut first = true;
         match Untold::of_calls(one.call, other.call) {
             // In a stretch that came in another order other words are no difference.
@@ -383,7 +383,7 @@ impl<W: Write> Table<'_, W> {
 
     fn print_on(&mut self, on: &Answer) -> io::Result<()> {
         self.begin(Said::Nothing, Some(0), Some(0), "");
-        self.line.left("on", CALL_WIDTH);
+        self.line.left_word("on", CALL_WIDTH);
         self.put_answer(on, Column::Blank);
         self.end()
     }
@@ -394,10 +394,10 @@ impl<W: Write> Table<'_, W> {
         } else {
             "   line"
         };
-        self.line.left("mark", MARK_WIDTH);
-        self.line.put(lines);
-        self.line.put(" cab   call           out  mode level brake buttons waiting  ");
-        self.line.put("first          bytes or km/h  message");
+        self.line.left_word("mark", MARK_WIDTH);
+        self.line.put_word(lines);
+        self.line.put_word(" cab   call           out  mode level brake buttons waiting  ");
+        self.line.put_word("first          bytes or km/h  message");
         self.end()
     }
 }

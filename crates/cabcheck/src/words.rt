@@ -9,13 +9,36 @@ pub struct Words<'s>(pub Option<&'s [u8]>);
 
 impl fmt::Display for Words<'_> {
     fn fmt<W: fmt::Write>(&self, f: &mut fmt::Formatter<W>) -> fmt::Result {
-        if let Some(words) = self.0 {
-            for byte in words {
-                f.write_char(*byte as char)?;
-            }
+        let Some(words) = self.0 else {
+            return Ok(());
+        };
+        if let Some(text) = ascii_text(words) {
+            return f.write_str(text);
+        }
+        for run in words.chunk_by(|byte, next| byte.is_ascii() == next.is_ascii()) {
+            write_run(f, run)?;
         }
         Ok(())
     }
+}
+
+// Bytes that are all ASCII, as a text that goes in one piece, which is quicker.
+fn ascii_text(bytes: &[u8]) -> Option<&str> {
+    match str::from_utf8(bytes) {
+        Ok(text) if text.is_ascii() => Some(text),
+        _ => None,
+    }
+}
+
+// Bytes of which all or none are ASCII.
+fn write_run<W: fmt::Write>(f: &mut fmt::Formatter<W>, run: &[u8]) -> fmt::Result {
+    if let Some(text) = ascii_text(run) {
+        return f.write_str(text);
+    }
+    for byte in run {
+        f.write_char(*byte as char)?;
+    }
+    Ok(())
 }
 
 // The words of a text where two are told beside each other: in quotation marks, with a \ before

@@ -107,6 +107,21 @@ ReadsLine value (Ok (Some entry)) = value ≡ Ok (Some (value_of entry))
 ReadsLine value (Err (Bad w)) = value ≡ Err w
 ReadsLine value (Err NoMemory) = is_call value ≡ true
 
+-- the lines that ask for bytes: those of a cycle's blocks, or those of a telegram
+abbrev pub has_bytes : Result (Option Verb) Wrong → Bool
+has_bytes (Ok (Some verbs.Cycle)) = true
+has_bytes (Ok (Some verbs.Telegram)) = true
+has_bytes (Ok (Some verbs.Press)) = false
+has_bytes (Ok (Some verbs.Record)) = false
+has_bytes (Ok (Some verbs.Order)) = false
+has_bytes (Ok None) = false
+has_bytes (Err w) = false
+
+-- memory is wanting only for the bytes of a line
+abbrev pub WantsForBytes : List ℕ → LineFault → Type 0
+WantsForBytes line (Bad w) = Unit {0}
+WantsForBytes line NoMemory = has_bytes (verb_of (word_of line)) ≡ true
+
 -- the same of a call that has no bytes: memory is not wanting there
 abbrev pub ReadsEntry : Result CallValue Wrong → Result Entry Wrong → Type 0
 ReadsEntry value (Ok entry) = value ≡ Ok (value_of entry)

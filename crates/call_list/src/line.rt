@@ -1,5 +1,5 @@
-ghost use Rattle.std.specs.Prelude.{◌≡◌};
-ghost use Rattle.call_list.specs.Lines.{verb_of, cycle_line, telegram_line, press_line, record_line, order_line, line_of, Reads, ReadsEntry, ReadsLine};
+ghost use Rattle.std.specs.Prelude.{◌≡◌, IfErr};
+ghost use Rattle.call_list.specs.Lines.{verb_of, cycle_line, telegram_line, press_line, record_line, order_line, line_of, Reads, ReadsEntry, ReadsLine, WantsForBytes};
 
 use crate::entry::{Entry, LineFault, Wrong};
 use crate::hexadecimal::{decode, hex_wanted};
@@ -84,7 +84,8 @@ fn read_order(rest: &[u8]) -> Result<Entry, Wrong>
 
 // What a line asks for; none where it is blank or a comment.
 pub(crate) fn read_line(heap: Global, line: &[u8]) -> Result<Option<Entry>, LineFault>
-    ensures { ReadsLine (line_of line.now) result }
+    ensures reads { ReadsLine (line_of line.now) result }
+    ensures memory { IfErr result (λ f. WantsForBytes line.now f) }
 {
     let (word, rest) = split_word(line);
     let Some(verb) = verb_of(word)? else {

@@ -1,12 +1,12 @@
 -- What stands in the columns of a tab-separated row behind the name of the call.
-use Rattle.std.specs.Prelude.{ℕ, List, [], ◌∷◌, Ok, Err, Option, codes, decimal}
+use Rattle.std.specs.Prelude.{ℕ, List, [], ◌∷◌, Option, codes, decimal}
 use Rattle.train_end.specs.Line.{line_number}
 use Rattle.telegram.specs.Modes.{mode_name}
 use Rattle.driver_desk.specs.Numbers.{level_number, outcome_number}
 use Rattle.driver_desk.specs.declared.answer.Answer.{Answer}
 use Rattle.plan.specs.Notes.{note_number}
 use Rattle.plan.specs.declared.note.Note.{Note}
-use Rattle.plan.specs.declared.note.Note.TheVariants.{Draft, Reading}
+use Rattle.plan.specs.declared.note.Note.TheVariants.{Draft, End, Fault}
 use Rattle.columns.specs.Names.{tabbed}
 use Rattle.columns.specs.Words.{request_column, speed_column}
 use Rattle.columns.specs.declared.names.Column.{Column}
@@ -47,8 +47,8 @@ with_no_answer outcome place = tabbed (decimal outcome) (
 
 abbrev pub note_place : Note → List ℕ
 note_place (Draft refusal) = codes "-"
-note_place (Reading (Err r)) = decimal r.first
-note_place (Reading (Ok place)) = decimal place
+note_place (Fault r) = decimal r.first
+note_place (End place) = decimal place
 
 abbrev pub note_columns : Note → List ℕ
 note_columns note = with_no_answer (note_number note) (note_place note)

@@ -51,8 +51,8 @@ impl fmt::Display for NoteColumns {
         write!(f, "{}\t", self.0.number())?;
         match self.0 {
             Note::Draft(_) => f.write_str("-")?,
-            Note::Reading(Err(refused)) => write!(f, "{}", refused.first)?,
-            Note::Reading(Ok(place)) => write!(f, "{place}")?,
+            Note::Fault(refused) => write!(f, "{}", refused.first)?,
+            Note::End(place) => write!(f, "{place}")?,
         }
         f.write_str("\t-\t-\t-\t-\t-\t-\t-\t-\t-\t-")
     }

@@ -63,6 +63,17 @@ module _ (m n : BTreeMap TextKey Surplus) (k : TextKey) (w : Option Surplus) (u 
       here true = h
       here false = let l = o q in (omega (arith, l.0), omega (arith, l.1))
 
+cond_over : {X : Type 0} (t : Bool) (w v x : X) → cond t w (cond t v x) ≡ cond t w x
+cond_over true w v x = refl
+cond_over false w v x = refl
+
+-- what is written twice at k is what was written last
+pub written_over : (m l n : BTreeMap TextKey Surplus) (k : TextKey) (v w : Option Surplus) →
+    ((q : TextKey) → get by_key l q ≡ cond (is_eq (by_key k q)) v (get by_key m q)) →
+    ((q : TextKey) → get by_key n q ≡ cond (is_eq (by_key k q)) w (get by_key l q)) →
+    (q : TextKey) → get by_key n q ≡ cond (is_eq (by_key k q)) w (get by_key m q)
+written_over m l n k v w u t q = t q ∙ ap (cond (is_eq (by_key k q)) w) (u q) ∙ cond_over (is_eq (by_key k q)) w v (get by_key m q)
+
 -- no text yet
 abbrev pub even : Surplus
 even = record { left = 0; right = 0 }

@@ -26,17 +26,15 @@ pub(crate) fn enter<'a>(
     ensures small { OnOk result ((i j : ℕ) → Bounded i j unsettled.old →
         Bounded (i + more.left) (j + more.right) unsettled.new) }
 {
+    // Taken out first: a text that is settled by this needs no second search.
     let before = unsettled
-        .get(&key)
-        .copied()
+        .remove(&key)
         .unwrap_or(Surplus { left: 0, right: 0 });
     let surplus = Surplus {
         left: before.left + more.left,
         right: before.right + more.right,
     };
-    if surplus.left == surplus.right {
-        unsettled.remove(&key);
-    } else {
+    if surplus.left != surplus.right {
         unsettled.insert(key, surplus)?;
     }
     Ok(())

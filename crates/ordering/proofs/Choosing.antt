@@ -1,5 +1,5 @@
 -- What the laws of a strict order give of the best record so far.
-use Rattle.std.proofs.Common.{◌≡◌, ℕ, ◌+◌, ◌<◌, Bool, true, false, cond, List, [], ◌∷◌, length, get_or, drop, Some, None, Option, sym, refl, ap, ◌∙◌, ⊎_elim, arith, below_more}
+use Rattle.std.proofs.Common.{◌≡◌, ℕ, ◌+◌, ◌<◌, Bool, true, false, cond, List, [], ◌∷◌, length, get_or, drop, Some, None, Option, sym, refl, ap, ◌∙◌, subst, ⊎_elim, arith, below_more}
 use Rattle.std.proofs.lemmas.List.Elements.{pair_read}
 use Rattle.std.proofs.lemmas.List.{drop_more, drop_all}
 use Rattle.std.proofs.lemmas.Bool.{both_ways, cases_Bool, cond-true, cond-false}
@@ -32,10 +32,10 @@ module _ {X : Type 0} {before same : X → X → Bool} (o : Strict before same) 
   itself : (x : X) → before x x ≡ false
   itself x = not-both (before x x) (same x x) (o.one x x)
 
-  -- The choice begins at the first record, which does not give way to itself.
-  pub best_of_none : (xs : List X) → 0 < length xs → BestOf before xs 0 0
-  best_of_none [] within = absurd (omega arith)
-  best_of_none (x ∷ xs) within = (within, (λ k d h. absurd (omega arith)), λ d. sym (ap (λ n. Some n) (cond-false _ _ _ (itself x))))
+  -- The first record is the best of one.
+  pub best_of_one : (xs : List X) → 0 < length xs → BestOf before xs 1 0
+  best_of_one [] within = absurd (omega arith)
+  best_of_one (x ∷ xs) within = (within, (λ k d h. let e : 0 ≡ k = omega arith in subst (λ m. before (get_or (x ∷ xs) m d) x ≡ false) e (itself x)), λ d. refl)
 
   module _ (xs : List X) (i b : ℕ) (x y : X) (best : BestOf before xs i b) (within : i < length xs) (atx : x ≡ get_or xs i x) (aty : y ≡ get_or xs b y) where
     -- What is known of the two records that meet, at any default.

@@ -1,28 +1,34 @@
 -- What is told that is no call of the unit, and what of it is compared.
-use Rattle.std.specs.Prelude.{ℕ, Bool, true, false, List, [], ◌∷◌, ◌++◌, Some, None, Option, Ok, Err, codes}
+use Rattle.std.specs.Prelude.{ℕ, Bool, true, false, List, [], ◌∷◌, ◌++◌, Some, None, Option, Ok, Err, Result, codes}
 use Rattle.telegram.specs.Faults.{fault_number}
+use Rattle.telegram.specs.declared.faults.Refused.{Refused}
 use Rattle.driver_desk.specs.Numbers.{refusal_number}
 use Rattle.plan.specs.declared.note.Note.{Note}
-use Rattle.plan.specs.declared.note.Note.TheVariants.{Draft, Reading}
+use Rattle.plan.specs.declared.note.Note.TheVariants.{Draft, End, Fault}
 use Rattle.plan.specs.declared.rows.Told.{Told}
 use Rattle.plan.specs.declared.rows.Told.TheVariants as tells
 
+-- how the reading of a telegram ended
+abbrev pub ending_note : Result ℕ Refused → Note
+ending_note (Ok place) = End place
+ending_note (Err r) = Fault r
+
 abbrev pub note_name : Note → List ℕ
 note_name (Draft refusal) = codes "draft"
-note_name (Reading (Err r)) = codes "fault"
-note_name (Reading (Ok place)) = codes "end"
+note_name (Fault r) = codes "fault"
+note_name (End place) = codes "end"
 
 -- 0, or the number of the refusal
 abbrev pub note_number : Note → ℕ
 note_number (Draft refusal) = refusal_number refusal
-note_number (Reading (Err r)) = fault_number r.fault
-note_number (Reading (Ok place)) = 0
+note_number (Fault r) = fault_number r.fault
+note_number (End place) = 0
 
 -- what a note gives to compare: the number of what was refused; an end gives nothing
 abbrev pub note_bounds : Note → List (Option ℕ)
 note_bounds (Draft refusal) = Some (refusal_number refusal) ∷ []
-note_bounds (Reading (Err r)) = Some (fault_number r.fault) ∷ []
-note_bounds (Reading (Ok place)) = []
+note_bounds (Fault r) = Some (fault_number r.fault) ∷ []
+note_bounds (End place) = []
 
 -- the bound in front of a call: none where the call before it is inside a stretch
 abbrev pub bound_behind : Bool → List (Option ℕ)

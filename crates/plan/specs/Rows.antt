@@ -6,7 +6,8 @@ use Rattle.driver_desk.specs.declared.refusal.Refusal.{Refusal}
 use Rattle.call_list.specs.declared.entry.Entry.{Entry}
 use Rattle.call_list.specs.declared.entry.Entry.TheVariants.{Cycle, Telegram, Press, Record, Order}
 use Rattle.call_list.specs.declared.listed.Listed.{Listed}
-use Rattle.plan.specs.declared.note.Note.TheVariants.{Draft, Reading}
+use Rattle.plan.specs.Notes.{ending_note}
+use Rattle.plan.specs.declared.note.Note.TheVariants.{Draft}
 use Rattle.plan.specs.declared.rows.Places.{Places}
 use Rattle.plan.specs.declared.rows.Row.{Row}
 use Rattle.plan.specs.declared.rows.Told.{Told}
@@ -20,7 +21,7 @@ abbrev pub order_row : PlacedValue → Told
 order_row p = Call (Some (places_of p))
 
 abbrev pub telegram_rows : WholeValue → List Told
-telegram_rows w = map order_row w.orders ++ (Note (Reading w.ending) ∷ [])
+telegram_rows w = map order_row w.orders ++ (Note (ending_note w.ending) ∷ [])
 
 -- the taking of a record is a call; a record that is refused is told
 abbrev pub record_row : Option Refusal → Told

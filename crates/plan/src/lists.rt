@@ -72,7 +72,7 @@ impl<'a> Plan<'a> {
             };
             self.add_call(line, Call::Order(placed.order), Some(places))?;
         }
-        self.add_row(line, Told::Note(Note::Reading(reading.ending)))
+        self.add_row(line, Told::Note(Note::of_ending(reading.ending)))
     }
 
     fn add_entry(&mut self, heap: Global, cab: Cab, listed: &'a Listed) -> Result<(), AllocError>

@@ -1,5 +1,5 @@
 ghost use Rattle.std.specs.Prelude.{◌≡◌};
-ghost use Rattle.plan.specs.Notes.{note_name, note_number};
+ghost use Rattle.plan.specs.Notes.{ending_note, note_name, note_number};
 
 use driver_desk::Refusal;
 use telegram::Refused;
@@ -9,20 +9,31 @@ use telegram::Refused;
 pub enum Note {
     /// The four numbers of a record that no draft takes, with the refusal, 10 to 13.
     Draft(Refusal),
-    /// How the reading of a telegram ended: at its end, with its length in bytes, or at the first
-    /// order that is refused.
-    Reading(Result<usize, Refused>),
+    /// A telegram was read to its end, which is at this place: its length in bytes.
+    End(usize),
+    /// A telegram was read to the first order that is refused, with why and where it begins.
+    Fault(Refused),
 }
 
 impl Note {
+    // How the reading of a telegram ended.
+    pub(crate) fn of_ending(ending: Result<usize, Refused>) -> Note
+        ensures { result ≡ ending_note ending }
+    {
+        match ending {
+            Ok(place) => Note::End(place),
+            Err(refused) => Note::Fault(refused),
+        }
+    }
+
     /// The word that a row has where another has its call: `draft`, `fault` or `end`.
     pub fn name(self) -> &'static str
         ensures { result.now ≡ note_name self }
     {
         match self {
             Note::Draft(_) => "draft",
-            Note::Reading(Err(_)) => "fault",
-            Note::Reading(Ok(_)) => "end",
+            Note::Fault(_) => "fault",
+            Note::End(_) => "end",
         }
     }
 
@@ -32,8 +43,8 @@ impl Note {
     {
         match self {
             Note::Draft(refusal) => refusal.number(),
-            Note::Reading(Err(refused)) => refused.fault.number(),
-            Note::Reading(Ok(_)) => 0,
+            Note::Fault(refused) => refused.fault.number(),
+            Note::End(_) => 0,
         }
     }
 }

@@ -20,8 +20,8 @@ fn add_note(trace: &mut Vec<Option<u8>>, note: Note) -> Result<(), AllocError>
     ensures { OnOk result (trace.new.items ≡ trace.old.items ++ note_bounds note) }
 {
     match note {
-        Note::Draft(_) | Note::Reading(Err(_)) => trace.push(Some(note.number()))?,
-        Note::Reading(Ok(_)) => {}
+        Note::Draft(_) | Note::Fault(_) => trace.push(Some(note.number()))?,
+        Note::End(_) => {}
     }
     Ok(())
 }

@@ -45,7 +45,7 @@ fn find<'a>(
     })
 }
 
-impl<'p, 'a, E: TrainEnd + Drop, F: TrainEnd + Drop> ReadyCabs<'p, 'a, E, F> {
+impl<'p, 'a, E: TrainEnd, F: TrainEnd> ReadyCabs<'p, 'a, E, F> {
     /// Both cabs with what their plans ask of them, on these ends, and with all places for answers
     /// and speeds.
     ///
@@ -89,15 +89,14 @@ impl<'p, 'a, E: TrainEnd + Drop, F: TrainEnd + Drop> ReadyCabs<'p, 'a, E, F> {
             (ran E.TrainEnd F.TrainEnd self.entry result) result }
     {
         let ReadyCabs { plans, bus, pulse } = self;
-        let Ok(
-            Compared {
-                one,
-                other,
-                verdict,
-            },
-        ) = compare_cabs(heap, bus, pulse)
-        else {
-            unreachable!()
+        let Compared {
+            one,
+            other,
+            verdict,
+        } = match compare_cabs(heap, bus, pulse) {
+            Ok(compared) => compared,
+            // Each cab has a place for every answer and speed.
+            Err(_back) => unreachable!(),
         };
         let finding = find(heap, plans, verdict);
         BothCabs {

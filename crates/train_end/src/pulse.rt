@@ -43,6 +43,18 @@ fn speed_of(p: u16) -> Option<u16>
     (p <= 555).then(|| (27 * p).div_ceil(25))
 }
 
+// The line that two relays hold, each on or off: also where the first is on and the second off, in
+// which position no end leaves them.
+fn held(first_relay: bool, second_relay: bool) -> BrakeLine
+    ensures { result ≡ relay_line first_relay second_relay }
+{
+    match (first_relay, second_relay) {
+        (_, false) => BrakeLine::Emergency,
+        (false, true) => BrakeLine::Service,
+        (true, true) => BrakeLine::Released,
+    }
+}
+
 impl PulseEnd {
     /// A new end: its speed is unknown, and its line is at emergency, with both relays off.
     #[tactic(auto, using(crate::proofs::Relays::fails_safe))]
@@ -100,10 +112,6 @@ impl TrainEnd for PulseEnd {
     }
 
     fn line(&self) -> BrakeLine {
-        match (self.first_relay, self.second_relay) {
-            (_, false) => BrakeLine::Emergency,
-            (false, true) => BrakeLine::Service,
-            (true, true) => BrakeLine::Released,
-        }
+        held(self.first_relay, self.second_relay)
     }
 }

@@ -15,15 +15,15 @@ const DRAFT: Row = Row {
 
 const FAULT: Row = Row {
     line: 3,
-    told: Told::Note(Note::Reading(Err(Refused {
+    told: Told::Note(Note::Fault(Refused {
         fault: Fault::OutsideList,
         first: 6,
-    }))),
+    })),
 };
 
 const END: Row = Row {
     line: 4,
-    told: Told::Note(Note::Reading(Ok(6))),
+    told: Told::Note(Note::End(6)),
 };
 
 // Rows, which calls are inside a stretch, and what is compared of the notes.

@@ -144,13 +144,13 @@ const NOTES: &[(Note, &str, u8, &str)] = &[
         "12\t-\t-\t-\t-\t-\t-\t-\t-\t-\t-\t-",
     ),
     (
-        Note::Reading(Err(FAULT)),
+        Note::Fault(FAULT),
         "fault",
         23,
         "23\t6\t-\t-\t-\t-\t-\t-\t-\t-\t-\t-",
     ),
     (
-        Note::Reading(Ok(11)),
+        Note::End(11),
         "end",
         0,
         "0\t11\t-\t-\t-\t-\t-\t-\t-\t-\t-\t-",

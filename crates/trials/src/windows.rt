@@ -113,6 +113,7 @@ fn take_steps(rt: &impl Abort, room: &mut [Line], steps: &[Step]) {
         };
         check(rt, "answer", answer, *wanted);
         check(rt, "top line", window.top(), *top);
+        check(rt, "how many lines", window.len(), lines.len());
         check_each(rt, "lines", window.lines(), lines);
     }
     let behind = window.show(window.len(), b"belts");

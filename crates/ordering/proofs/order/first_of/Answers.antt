@@ -1,6 +1,6 @@
 use Rattle.std.proofs.Common.{length, Some, rules}
 use Rattle.ordering.specs.Order.{NoneBefore}
-use Rattle.ordering.proofs.Choosing.{Strict, BestOf, best_of_none, best_keeps, best_gives_way, best_chosen, leads}
+use Rattle.ordering.proofs.Choosing.{Strict, BestOf, best_of_one, best_keeps, best_gives_way, best_chosen, leads}
 use Rattle.ordering.proofs.order.first_of.Given as given
 use Rattle.ordering.proofs.order.first_of.Goals as goal
 use Rattle.ordering.proofs.order.first_of.Goals.{then-is_before, else-is_before}
@@ -9,7 +9,7 @@ strict : (g : given.Over) → Strict g.T.Ordered.before g.T.Ordered.same
 strict g = record { one = g.met.T.Ordered.one; carries = g.met.T.Ordered.carries }
 
 pub loop-i-init : goal.loop-i-init
-loop-i-init g c = best_of_none (strict g) c.args.run.now (search rules)
+loop-i-init g c = best_of_one (strict g) c.args.run.now (search rules)
 
 pub loop-i-preserved : goal.loop-i-preserved
 loop-i-preserved g c =
